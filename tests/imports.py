@@ -5,7 +5,6 @@ An import is a leaf of a use tree or an `extern crate`. For each, in the order o
 
 - `resolved`, or `unknown` where it leads to nothing that is seen
 - `unresolved`, `private`, `follows`, `too_wide` or `nameless`: it is told
-- `lint`: a warning says so, since lints that may be allowed are all that refuses it; in the list it is unknown
 - `absent`: nothing is said of it, since a cfg disables it, an attribute may rewrite it, or it has no form that imports have
 
 Words with `/` between them are answers of which each is right; several words are those of a file that is several modules.
@@ -365,10 +364,8 @@ crate("exported by a call, and allowed", f"#![allow(macro_expanded_macro_exports
 crate("allowed with its group",
       f"#![allow(future_incompatible)] {EXPORTS} #[derive(Debug)] pub struct S; mod a {{ make!{{}} }} mod b {{ use crate::made as n; }}", "unknown")
 crate("exported by a call of another crate, and allowed",
-      "#![allow(future_incompatible)] #[derive(Debug)] pub struct S; mod a { more::make!{} } mod b { use crate::made as n; }", "lint",
+      "#![allow(future_incompatible)] #[derive(Debug)] pub struct S; mod a { more::make!{} } mod b { use crate::made as n; }", "unknown",
       others={"more": "#[macro_export] macro_rules! make { () => { #[macro_export] macro_rules! made { () => {} } } }"})
-crate("a private extern crate for everybody, allowed", "mod m { extern crate core as k; #[allow(pub_use_of_private_extern_crate)] pub use self::k as j; } pub use m::j::mem;",
-      "unknown", "unknown", "lint")
 crate("warned of with its group",
       f"#![warn(future_incompatible)] {EXPORTS} #[derive(Debug)] pub struct S; mod a {{ make!{{}} }} mod b {{ use crate::made as n; }}", "unknown")
 crate("exported by a call, through a glob", f"{EXPORTS} #[derive(Debug)] pub struct S; mod a {{ make!{{}} }} mod m {{ pub use super::*; }} mod o "
@@ -395,7 +392,7 @@ crate("exported from a file below a file of a body", {"lib.rs": "mod a; mod m { 
 crate("the macros of a proc macro crate", "extern crate proc_macro; use proc_macro::TokenStream; #[proc_macro_derive(Add, attributes(help))] pub "
       "fn add(x: TokenStream) -> TokenStream { x } " "#[proc_macro] pub fn call(x: TokenStream) -> TokenStream { x } mod m { use crate::Add; use "
       "crate::call; use crate::Sub; }", "unknown", "unknown", "resolved/unknown", "resolved", "unresolved/unknown")
-crate("and not allowed", "#[derive(Debug)] pub struct S; mod a { more::make!{} } mod b { use crate::made as n; }", "lint",
+crate("and not allowed", "#[derive(Debug)] pub struct S; mod a { more::make!{} } mod b { use crate::made as n; }", "unresolved",
       others={"more": "#[macro_export] macro_rules! make { () => { #[macro_export] macro_rules! made { () => {} } } }"})
 
 # ---- extern crates
@@ -612,18 +609,6 @@ package("features", '[features]\ndefault = ["a"]\na = []\nb = []\n',
 package("a feature of no manifest", '[features]\nb = []\n', '#[cfg(feature = "c")] pub fn g() {} mod m { use crate::g; }', "unknown", refused="E0432")
 package("a feature that is given", '[features]\nb = []\n', '#[cfg(feature = "b")] pub fn g() {} mod m { use crate::g; }', "resolved",
       cfgs=['feature="b"'], options=["--features", "b"])
-package("modules of one name under cfgs of a build script", "",
-        "#[cfg(has_x)] mod a { pub struct X; pub struct W; } #[cfg(not(has_x))] mod a { pub struct X; } pub use a::{X, W};", "resolved", "unknown", cfgs=["has_x"])
-package("an import under a cfg of a build script", "", "mod a { pub fn f() {} } #[cfg(not(has_x))] use crate::gone::X; use a::f;", "absent", "resolved", cfgs=["has_x"])
-package("imports in modules that a build script may take away", "",
-        "#[cfg(not(has_x))] mod a { use crate::gone; mod b { use crate::gone; } } #[cfg(unix)] mod c { use super::d::gone; } mod d {}", "absent", "absent", "unresolved",
-        cfgs=["has_x", "unix"])
-package("what a build script may change", "",
-        "#[cfg_attr(has_x, macro_export)] macro_rules! m { () => {} } pub mod a { #[cfg(not(has_x))] pub(crate) struct X; #[cfg(has_x)] pub struct X; pub use self::X as Y; } use crate::m as n;",
-        "resolved", "unknown", cfgs=["has_x"])
-package("a cfg of a feature is no build script's", '[features]\nb = []\n', '#[cfg(not(feature = "b"))] use crate::gone::X;', "unresolved")
-package("a prelude of its own", "", "#![feature(prelude_import)] mod p { pub mod q { pub fn f() {} } } #[prelude_import] use p::*; mod a { use q::f; }",
-        "absent", "unknown", is_held=False)
 package("an exported macro that the manifest allows", '[lints.rust]\nmacro_expanded_macro_exports_accessed_by_absolute_paths = "allow"\n',
         f"#[derive(Debug)] pub struct S; {EXPORTS} mod a {{ make! {{}} }} mod b {{ use crate::made as n; }}", "unknown", refused="macro-expanded")
 
@@ -786,7 +771,7 @@ class Import:
         return any(words <= TOLD for words in self.verdicts)
 
     def may_be_told(self):
-        return any(words & (TOLD | {"lint"}) for words in self.verdicts)
+        return any(words & TOLD for words in self.verdicts)
 
     def is_follower(self):
         return self.verdicts == [{"follows"}]
@@ -813,7 +798,7 @@ WORDS = {"this import leads to nothing": {"unresolved", "follows"}, "this import
 UNCHECKED = "the imports of this crate are not checked: an item tree does not keep the :: of use ::{..}"
 UNRESOLVED = UNCHECKED.replace("checked", "resolved")
 # And what is said of each import where all are listed.
-VERDICTS = {"resolved": {"resolved"}, "unknown": {"unknown", "lint"}, "unresolved": {"unresolved", "follows"}, "private": {"private"}, "too wide": {"too_wide"},
+VERDICTS = {"resolved": {"resolved"}, "unknown": {"unknown"}, "unresolved": {"unresolved", "follows"}, "private": {"private"}, "too wide": {"too_wide"},
             "nameless": {"nameless"}}
 OF_MODULES = re.compile(r" has (no file|two files): | is a file that it stands in: ")
 
@@ -831,19 +816,17 @@ def place_in(file, line, column):
 
 
 def rows_of(case, folder):
-    """The lines of the imports that the program tells, by their places, the places of its warnings, and the other lines."""
+    """The lines of the imports that the program tells, by their places, and the others."""
     lines, errors = ran(case, folder, "check")
     errors = [line for line in errors if not line.endswith(": " + UNCHECKED)]
-    rows, warned, others = {}, set(), []
+    rows, others = {}, []
     for line in lines:
         *where, said = line.split(":", 3)
-        if said.startswith(" warning: ") and said[len(" warning: "):] in WORDS:
-            warned.add(place_in(*where))
-        elif said[1:] in WORDS:
+        if said[1:] in WORDS:
             rows.setdefault(place_in(*where), []).append(WORDS[said[1:]])
         elif not OF_MODULES.search(said):
             others.append(line)
-    return rows, warned, others + errors
+    return rows, others + errors
 
 
 def allowed(case, it):
@@ -853,11 +836,8 @@ def allowed(case, it):
 
 def verdicts_of(case, imports, folder):
     """What is wrong with what the program says: an import of a file that is several modules has a line for each of them."""
-    rows, warned, others = rows_of(case, folder)
+    rows, others = rows_of(case, folder)
     left = dict(rows)
-    lints = {it.place for it in imports if any("lint" in words for words in it.verdicts)}
-    if warned != lints:
-        yield f"warnings at {sorted(warned)}, expected at {sorted(lints)}"
     for it in imports:
         told = left.pop(it.place, [])
         verdicts = allowed(case, it)

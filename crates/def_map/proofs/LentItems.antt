@@ -1,5 +1,5 @@
 -- What the item of an id adds, by what is lent for it.
-use Rattle.std.proofs.Common.{◌≡◌, ℕ, Vec, Global, List, [], ◌∷◌, ◌++◌, map, Option, Some, None, refl, ap, sym, ◌∙◌, append-nil, append_assoc, flat_map, get_or, drop, length, not, ◌<◌, ◌+◌}
+use Rattle.std.proofs.Common.{◌≡◌, ℕ, List, [], ◌∷◌, ◌++◌, map, Option, Some, None, refl, ap, sym, ◌∙◌, append-nil, append_assoc, flat_map, get_or, drop, length, not, ◌<◌, ◌+◌}
 use Rattle.std.proofs.lemmas.{List.drop_more, Option.slice_get-map, Simd.map-map}
 use Rattle.std.specs.List.{enumerate_from}
 use Rattle.std.specs.{Borrow.Bor, Option.option_map_or, Prelude.option_map, Prelude.slice_get}
@@ -16,8 +16,7 @@ use Rattle.def_map.specs.declared.attributes.Marks.{Marks}
 use Rattle.hir_input.specs.declared.ast.PlainKind.{PlainKind}
 use Rattle.std.proofs.lemmas.Option.{none-some, same_Some}
 use Rattle.def_map.specs.Inner.Walking.{lent_other, lent_plain, plain_rows, collected_in, id_rows, lent_collected, lent_inside, lent_own}
-use Rattle.def_map.specs.Parts.{CrateSources, item_marks}
-use Rattle.def_map.specs.Tables.{CrateRow, least_visibility, ctor_visibility, leaf_rows, trunk_rows, place_inside, visibility_in, marked_rows, present_by, present_rows, node_rows, forest_rows, tree_rows, hidden_rows, file_rows}
+use Rattle.def_map.specs.Tables.{CrateSources, CrateRow, least_visibility, ctor_visibility, leaf_rows, trunk_rows, place_inside, visibility_in, marked_rows, present_by, present_rows, node_rows, forest_rows, tree_rows, hidden_rows, file_rows}
 use Rattle.def_map.specs.Views.{sources_view}
 
 -- ---- attributes that are lent
@@ -86,10 +85,10 @@ module _ (ctx : Ctx) (u : Unfolding) where
     rows_inside q = option_map_or (λ inner. flat_map (id_rows ctx u inner) (child_ids u i)) q []
 
     abbrev owner : Collected → FileAstId → Owner
-    owner c a = record { place = p; id = a; marks = item_marks S p.at a c.attrs }
+    owner c a = record { place = p; id = a; marks = attr_marks c.attrs }
 
     abbrev whole : Collected → FileAstId → Lent → List CrateRow
-    whole c a x = present_rows S.manifest.features p.at (item_marks S p.at a c.attrs) c (lent_own ctx u (owner c a) x ++ rows_inside (lent_inside ctx (owner c a) x))
+    whole c a x = present_rows S.manifest.features p.at c (lent_own ctx u (owner c a) x ++ rows_inside (lent_inside ctx (owner c a) x))
 
     inner_rows : (is : List ℕ) (f : Forest) → is ≡ child_ids u i → StandFor u is f → (q : Option Place) → option_map_or (λ inner. forest_rows P S inner f) q [] ≡ rows_inside q
     inner_rows is f d e None = refl
@@ -106,7 +105,7 @@ module _ (ctx : Ctx) (u : Unfolding) where
         let attrs : q.head.attrs ≡ c = sym (e ∙ node_shown u i n q.found) in
         let seen : leaf_rows P S o (visibility_in P S p.at) q.item ≡ leaf_rows P S o (λ v. see (vis_at u.forest v)) l =
         sym (leaf_seen P S Some o see q.item) ∙ ap (leaf_rows P S o see) (sym q.visible) ∙ leaf_seen P S (vis_at u.forest) o see l in
-        leaf_of_id u [] (node_rows P S p) i b l q ∙ ap (present_rows S.manifest.features p.at o.marks q.head.attrs) (seen ∙ sym (append-nil _)) ∙ (λ k. whole (attrs k) (same_id n a q.found f k) (lent_leaf b l))
+        leaf_of_id u [] (node_rows P S p) i b l q ∙ ap (present_rows S.manifest.features p.at q.head.attrs) (seen ∙ sym (append-nil _)) ∙ (λ k. whole (attrs k) (same_id n a q.found f k) (lent_leaf b l))
     lent_adds (lent_parent b t is) c a q e f =
         let n = parent q.head q.item q.below in
         let o = owner q.head.attrs (node_ast n) in
@@ -117,25 +116,25 @@ module _ (ctx : Ctx) (u : Unfolding) where
         sym (inside_seen P S Some o see q.item) ∙ ap (place_inside P S o) (sym q.visible) ∙ inside_seen P S (vis_at u.forest) o see t in
         let within : option_map_or (λ inner. forest_rows P S inner q.below) (place_inside P S o q.item) [] ≡ rows_inside (place_inside P S o t) =
         inner_rows is q.below q.ids q.children (place_inside P S o q.item) ∙ ap rows_inside place in
-        parent_of_id u [] (node_rows P S p) i b t is q ∙ (λ k. present_rows S.manifest.features p.at o.marks q.head.attrs (seen k ++ within k)) ∙ (λ k. whole (attrs k) (same_id n a q.found f k) (lent_parent b t is))
+        parent_of_id u [] (node_rows P S p) i b t is q ∙ (λ k. present_rows S.manifest.features p.at q.head.attrs (seen k ++ within k)) ∙ (λ k. whole (attrs k) (same_id n a q.found f k) (lent_parent b t is))
 
     abbrev by_marks : Marks → FileAstId → Owner
     by_marks m a = record { place = p; id = a; marks = m }
 
     -- where no cfg disables it
     opened : (x : Lent) (o : Option (Bor AttrsOrCfg)) (a : FileAstId) (m : Marks) → IsLent u i x → option_map (λ attrs. collection_of attrs.now) o ≡ attrs_at u i → option_map node_ast (node_at u.forest i) ≡ Some a
-        → None ≡ (collected_in o).false_cfg → m ≡ item_marks S p.at a (collected_in o).attrs
+        → None ≡ (collected_in o).false_cfg → m ≡ attr_marks (collected_in o).attrs
         → id_rows ctx u p i ≡ marked_rows p.at m ++ (lent_own ctx u (by_marks m a) x ++ rows_inside (lent_inside ctx (by_marks m a) x))
     opened x o a m q h f none e =
         let C = collected_in o in
-        let M = item_marks S p.at a C.attrs in
+        let M = attr_marks C.attrs in
         lent_adds x C a q (collected_lent o (attrs_at u i) h) f
         ∙ ap (λ (cfg : Option CfgView). present_by S.manifest.features p.at M cfg (lent_own ctx u (by_marks M a) x ++ rows_inside (lent_inside ctx (by_marks M a) x))) (sym none)
         ∙ ap (λ (k : Marks). marked_rows p.at k ++ (lent_own ctx u (by_marks k a) x ++ rows_inside (lent_inside ctx (by_marks k a) x))) (sym e)
 
     -- the rows that an item adds, where no items stand in it, and where some do
     pub none_inside : (x : Lent) (o : Option (Bor AttrsOrCfg)) (a : FileAstId) (m : Marks) (v0 v1 v2 : List CrateRow) → IsLent u i x → option_map (λ attrs. collection_of attrs.now) o ≡ attrs_at u i
-        → option_map node_ast (node_at u.forest i) ≡ Some a → None ≡ (collected_in o).false_cfg → m ≡ item_marks S p.at a (collected_in o).attrs
+        → option_map node_ast (node_at u.forest i) ≡ Some a → None ≡ (collected_in o).false_cfg → m ≡ attr_marks (collected_in o).attrs
         → v1 ≡ v0 ++ marked_rows p.at m → v2 ≡ v1 ++ lent_own ctx u (by_marks m a) x → None ≡ lent_inside ctx (by_marks m a) x → v2 ≡ v0 ++ id_rows ctx u p i
     none_inside x o a m v0 v1 v2 q h f none e d1 d2 gone =
         let own = lent_own ctx u (by_marks m a) x in
@@ -143,7 +142,7 @@ module _ (ctx : Ctx) (u : Unfolding) where
         ∙ ap (λ (r : List CrateRow). v0 ++ r) (sym (opened x o a m q h f none e))
 
     pub some_inside : (x : Lent) (o : Option (Bor AttrsOrCfg)) (a : FileAstId) (m : Marks) (r : Place) (js : List ℕ) (v0 v1 v2 v3 : List CrateRow) → IsLent u i x
-        → option_map (λ attrs. collection_of attrs.now) o ≡ attrs_at u i → option_map node_ast (node_at u.forest i) ≡ Some a → None ≡ (collected_in o).false_cfg → m ≡ item_marks S p.at a (collected_in o).attrs
+        → option_map (λ attrs. collection_of attrs.now) o ≡ attrs_at u i → option_map node_ast (node_at u.forest i) ≡ Some a → None ≡ (collected_in o).false_cfg → m ≡ attr_marks (collected_in o).attrs
         → v1 ≡ v0 ++ marked_rows p.at m → v2 ≡ v1 ++ lent_own ctx u (by_marks m a) x → Some r ≡ lent_inside ctx (by_marks m a) x → js ≡ child_ids u i
         → v3 ≡ v2 ++ flat_map (id_rows ctx u r) js → v3 ≡ v0 ++ id_rows ctx u p i
     some_inside x o a m r js v0 v1 v2 v3 q h f none e d1 d2 at d d3 =
@@ -176,9 +175,6 @@ module _ (ctx : Ctx) (u : Unfolding) where
 
 pub tree_lent : (trees : List (Bor Unfolding)) (k : ℕ) → slice_get (map (λ tree. tree.now) trees) k ≡ option_map (λ tree. tree.now) (slice_get trees k)
 tree_lent trees k = slice_get-map (λ tree. tree.now) trees k
-
-pub unsure_lent : (lists : List (Vec FileAstId Global)) (k : ℕ) → slice_get (map (λ ids. ids.items) lists) k ≡ option_map (λ ids. ids.items) (slice_get lists k)
-unsure_lent lists k = slice_get-map (λ ids. ids.items) lists k
 
 -- what a file's bodies hide, and then what its items add
 pub file_joined : (parents : List (Option ℕ)) (s : CrateSources) (at : ℕ) (u : Unfolding) (o : Option Unfolding) (w words : Option ℕ) (v0 v1 v2 : List CrateRow) → Some u ≡ o → w ≡ words

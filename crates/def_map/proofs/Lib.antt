@@ -14,7 +14,6 @@ mod ReachedItems
 mod Leading
 mod LeafForms
 mod LentItems
-mod Lints
 mod Listing
 mod Meeting
 mod Noting

@@ -23,11 +23,10 @@ use Rattle.def_map.specs.Closure.{Closes, HasTooManyFacts, HasTooManyJoins}
 use Rattle.def_map.specs.Crates.{Crate, PathImport}
 use Rattle.def_map.specs.Numbering.{path_names, asked_items}
 use Rattle.def_map.specs.Numbers.{crate_by_numbers, renumbered_import, numbered_macro, IsNumbering}
-use Rattle.def_map.specs.Refused.{macros_called, macro_pair_count, IsCrateRefused, AreSourcesRefused, collect_error, numbers_error, seeds_error, closure_error}
+use Rattle.def_map.specs.Refused.{macros_called, macro_pair_count, IsCrateRefused, AreImportsRefused, collect_error, numbers_error, seeds_error, closure_error}
 use Rattle.def_map.specs.Seeding.{macro_count, macro_named, macros_named, pair_count}
 use Rattle.def_map.specs.ModuleOrder.{are_behind}
-use Rattle.def_map.specs.Parts.{CrateSources}
-use Rattle.def_map.specs.Tables.{crate_of, parents_of}
+use Rattle.def_map.specs.Tables.{CrateSources, crate_of, parents_of}
 use Rattle.std.proofs.lemmas.List.Elements.{All-contains}
 use Rattle.def_map.proofs.LoopFacts.{closes_alike}
 use Rattle.def_map.proofs.Counting.{counted_of}
@@ -138,12 +137,12 @@ memory_refused c err same = subst (IsCrateRefused c) (sym same) tt
 -- ---- of all its parts
 
 pub collect_refused : (s : CrateSources) (err : CollectError) → (err ≡ collect_code.TooManyModules → most_modules < length s.modules) → (err ≡ collect_code.OutOfOrder → are_behind 0 (parents_of s.modules) ≡ false)
-    → AreSourcesRefused s (collect_error err)
+    → AreImportsRefused s (collect_error err)
 collect_refused s collect_code.OutOfMemory many unordered = tt
 collect_refused s collect_code.TooManyModules many unordered = many refl
 collect_refused s collect_code.OutOfOrder many unordered = unordered refl
 
-pub crate_refused : (s : CrateSources) (c : Crate (List ℕ) ItemKey) (err : DefMapError) → c ≡ crate_of s → IsCrateRefused c err → AreSourcesRefused s err
+pub crate_refused : (s : CrateSources) (c : Crate (List ℕ) ItemKey) (err : DefMapError) → c ≡ crate_of s → IsCrateRefused c err → AreImportsRefused s err
 crate_refused s c OutOfMemory same h = tt
 crate_refused s c TooManyModules same h = absurd h
 crate_refused s c OutOfOrder same h = absurd h
@@ -154,5 +153,5 @@ crate_refused s c TooManyPairs same h = subst (λ z. IsCrateRefused z TooManyPai
 crate_refused s c TooManyFacts same h = subst (λ z. IsCrateRefused z TooManyFacts) same h
 crate_refused s c TooManyJoins same h = subst (λ z. IsCrateRefused z TooManyJoins) same h
 
-pub sources_memory_refused : (s : CrateSources) (err : DefMapError) → err ≡ OutOfMemory → AreSourcesRefused s err
-sources_memory_refused s err same = subst (AreSourcesRefused s) (sym same) tt
+pub sources_memory_refused : (s : CrateSources) (err : DefMapError) → err ≡ OutOfMemory → AreImportsRefused s err
+sources_memory_refused s err same = subst (AreImportsRefused s) (sym same) tt

@@ -25,8 +25,7 @@ use Rattle.def_map.specs.Found.{verdict_of, AreVerdicts}
 use Rattle.def_map.specs.Inner.Told.{verdict_told, verdict_at, AreToldUpto, IsToldAt, AreToldBy, AreAnswers, Answer, resolved_answer, told_answer, collected_crate, rows_answers}
 use Rattle.def_map.specs.Private.{private_imports}
 use Rattle.def_map.specs.Resolved.{IsTold, named, without_name, IsAnswer, ImportPlace, row_places, AreResolved}
-use Rattle.def_map.specs.Parts.{CrateSources}
-use Rattle.def_map.specs.Tables.{CrateRow, declares, imports, veil, macro_veil, defines_macro, names_crate, rows_of, parents_of, crate_from, crate_of, row_imports}
+use Rattle.def_map.specs.Tables.{CrateSources, CrateRow, declares, imports, veil, macro_veil, defines_macro, names_crate, rows_of, parents_of, crate_from, crate_of, row_imports}
 use Rattle.def_map.specs.Targets.{AreTargetsBy}
 use Rattle.def_map.specs.Told.{IsVerdict, AreFactsFound}
 use Rattle.def_map.proofs.ReachedItems.{IsKnown}
@@ -42,14 +41,14 @@ past [] i low e = omega (arith, low)
 past (x ∷ xs) zero low e = none-some x (sym e)
 past (x ∷ xs) (suc i) low e = past xs i (omega (arith, low)) e
 
-pub got_at : {X : Type 0} (xs : List X) (i : ℕ) → i < length xs → (x : X) × (slice_get xs i ≡ Some x)
+got_at : {X : Type 0} (xs : List X) (i : ℕ) → i < length xs → (x : X) × (slice_get xs i ≡ Some x)
 got_at {X = X} xs i low = by (slice_get xs i) refl
   where
     by : (o : Option X) → slice_get xs i ≡ o → (x : X) × (slice_get xs i ≡ Some x)
     by None e = absurd (past xs i low e)
     by (Some x) e = (x, e)
 
-pub get_behind : {X : Type 0} (xs : List X) (y : X) (i : ℕ) (x : X) → slice_get (xs ++ y ∷ []) i ≡ Some x → (slice_get xs i ≡ Some x) ⊎ ((i ≡ length xs) × (y ≡ x))
+get_behind : {X : Type 0} (xs : List X) (y : X) (i : ℕ) (x : X) → slice_get (xs ++ y ∷ []) i ≡ Some x → (slice_get xs i ≡ Some x) ⊎ ((i ≡ length xs) × (y ≡ x))
 get_behind [] y zero x e = inr (refl, same_Some y x e)
 get_behind [] y (suc i) x e = absurd (none-some x e)
 get_behind (z ∷ xs) y zero x e = inl e

@@ -26,8 +26,7 @@ use Rattle.def_map.specs.Inner.Walking.{unseen_other}
 use Rattle.def_map.specs.Laws.{IsRising, IsModuleOf, IsWhole}
 use Rattle.def_map.specs.ModuleOrder.{is_parent_behind, are_behind}
 use Rattle.def_map.specs.Tables as spec
-use Rattle.def_map.specs.Parts.{CrateSources}
-use Rattle.def_map.specs.Tables.{CrateRow, declares, imports, veil, macro_veil, defines_macro, names_crate}
+use Rattle.def_map.specs.Tables.{CrateSources, CrateRow, declares, imports, veil, macro_veil, defines_macro, names_crate}
 use Rattle.def_map.proofs.Order.{IsAbove, is_within_of, within_itself}
 
 -- ---- parents stand before their modules
@@ -217,7 +216,7 @@ module _ (parents : List (Option ℕ)) where
       fine_leaf see h (struct_item name v shape c) = (tt, fine_ctor name (spec.ctor_limit parents o.marks (see v)) (option_map (spec.ctor_limit parents o.marks) (spec.ctor_visibility parents see c)))
       fine_leaf see h (outline name v) = fine_mod name (see v) (spec.module_of s.modules o.place.at o.id) refl
       fine_leaf see h (use_item v t) = fine_use (see v) t (h v)
-      fine_leaf see h (extern_crate name v alias) = fine_crate _ (spec.crate_visibility s.allows_lints (see v))
+      fine_leaf see h (extern_crate name v alias) = fine_crate _ (see v)
       fine_leaf see h (impl_item of_trait) = tt
       fine_leaf see h (macro_call called e x) = (tt, tt)
       fine_leaf see h (macro_rules name) = (tt, fine_if o.marks.is_exported _ [] (tt, tt) tt)
@@ -235,7 +234,7 @@ module _ (parents : List (Option ℕ)) where
       place_within extern_block q e = subst (λ (p : Place). p.at < length parents) (same_Some (spec.inner_place o o.place.at) q e) within
 
     fine_marked : (at : ℕ) (m : Marks) → AreFine (spec.marked_rows at m)
-    fine_marked at m = fine_if m.is_unsure (veil at seen_by.Public ∷ macro_veil ∷ []) _ (tt, (tt, tt)) (fine_if m.is_veiling (veil at seen_by.Public ∷ []) [] (tt, tt) tt)
+    fine_marked at m = fine_if m.is_veiling (veil at seen_by.Public ∷ []) [] (tt, tt) tt
 
     fine_present : (at : ℕ) (m : Marks) (cfg : Option CfgView) (rows : List CrateRow) → AreFine rows → AreFine (spec.present_by s.manifest.features at m cfg rows)
     fine_present at m None rows f = fine_append (spec.marked_rows at m) rows (fine_marked at m) f
@@ -249,10 +248,10 @@ module _ (parents : List (Option ℕ)) where
     mutual
       fine_node : (p : Place) (n : Node) → p.at < length parents → AreFine (spec.node_rows parents s p n)
       fine_node p (leaf h l) within =
-          fine_present p.at (spec.owner_of parents s p (leaf h l)).marks h.attrs.false_cfg _ (fine_leaf (spec.owner_of parents s p (leaf h l)) within (spec.visibility_in parents s p.at) (sees_own parents s p.at ordered within) l)
+          fine_present p.at (attr_marks h.attrs.attrs) h.attrs.false_cfg _ (fine_leaf (spec.owner_of parents s p (leaf h l)) within (spec.visibility_in parents s p.at) (sees_own parents s p.at ordered within) l)
       fine_node p (parent h t f) within =
           let o = spec.owner_of parents s p (parent h t f) in
-          fine_present p.at o.marks h.attrs.false_cfg _
+          fine_present p.at (attr_marks h.attrs.attrs) h.attrs.false_cfg _
           (fine_append _ _ (fine_trunk o within (spec.visibility_in parents s p.at) t) (fine_inside f (λ r h. fine_forest r f h) (spec.place_inside parents s o t) (λ q e. place_within o within t q e)))
 
       fine_forest : (p : Place) (f : Forest) → p.at < length parents → AreFine (spec.forest_rows parents s p f)
@@ -280,9 +279,9 @@ module _ (parents : List (Option ℕ)) where
     pub rows_fine : AreFine (spec.rows_with parents s)
     rows_fine =
         let names = root_crates s.manifest.is_2015 in
-        let rows = spec.place_rows parents s in
-        fine_append rows (spec.expanded_rows s.allows_lints rows) (fine_append (map spec.root_crate names) _ (fine_root_crates names) (fine_modules 0 s.modules (omega arith)))
-        (fine_if (s.allows_lints && list_any spec.is_veil rows) (macro_veil ∷ []) [] (tt, tt) tt)
+        fine_append (map spec.root_crate names ++ spec.expanded_rows s.allows_expanded) _
+        (fine_append (map spec.root_crate names) (spec.expanded_rows s.allows_expanded) (fine_root_crates names) (fine_if s.allows_expanded (macro_veil ∷ []) [] (tt, tt) tt))
+        (fine_modules 0 s.modules (omega arith))
 
 -- ---- the crate that rows make
 

@@ -33,21 +33,9 @@ have_foreign_derive attrs = list_any is_foreign_derive attrs
 -- what the attributes of an item do to its names
 abbrev pub attr_marks : List Attr → Marks
 attr_marks attrs = record {
-  is_unsure = false;
   is_foreign = have_foreign attrs;
   is_veiling = have_foreign attrs || have_foreign_derive attrs;
   is_test = have_test attrs;
   is_exported = have (codes "macro_export") attrs;
   is_non_exhaustive = have (codes "non_exhaustive") attrs;
-}
-
--- and if a build script may take the item away, or change it
-abbrev pub marks_with : Bool → Marks → Marks
-marks_with is_unsure m = record {
-  is_unsure = is_unsure;
-  is_foreign = m.is_foreign || is_unsure;
-  is_veiling = m.is_veiling;
-  is_test = m.is_test;
-  is_exported = m.is_exported;
-  is_non_exhaustive = m.is_non_exhaustive;
 }

@@ -6,15 +6,7 @@ use Rattle.def_map.specs.Closure.{is_glob_name}
 use Rattle.def_map.specs.declared.{facts.Fact.Fact, facts.ImportTable.ImportTable, facts.Thing.Thing, verdict.Lead.Lead, verdict.Verdict.Verdict}
 use Rattle.def_map.specs.declared.facts.Fact.TheVariants.{Stands, Gives}
 use Rattle.def_map.specs.declared.facts.Thing.TheVariants.{Item, Unseen}
-use Rattle.def_map.specs.declared.verdict.Verdict.TheVariants.{Unresolved, TooWide, Unknown, Resolved, Nameless}
-
--- an import of which this is told is wrong
-abbrev pub says_wrong : Verdict → Bool
-says_wrong Unresolved = true
-says_wrong TooWide = true
-says_wrong Nameless = true
-says_wrong Unknown = false
-says_wrong Resolved = false
+use Rattle.def_map.specs.declared.verdict.Verdict.TheVariants.{Unresolved, TooWide, Unknown, Resolved}
 
 abbrev pub is_seen : Thing → Bool
 is_seen Unseen = false

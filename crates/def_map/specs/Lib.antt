@@ -12,7 +12,6 @@ pub mod Lowering
 pub mod ModuleOrder
 pub mod Numbering
 pub mod Numbers
-pub mod Parts
 pub mod Private
 pub mod Refused
 pub mod Seeding

@@ -1,5 +1,5 @@
 -- Why nothing is told of the imports of a crate.
-use Rattle.std.specs.Prelude.{◌≡◌, ◌≢◌, ◌<◌, ◌≤◌, ◌+◌, ◌^◌, ◌⊎◌, ℕ, true, false, List, [], ◌∷◌, Option, length, count_by, sum_by, AllPairs, Contains}
+use Rattle.std.specs.Prelude.{◌≡◌, ◌≢◌, ◌<◌, ◌≤◌, ◌+◌, ◌^◌, ℕ, true, false, List, [], ◌∷◌, Option, length, count_by, sum_by, AllPairs, Contains}
 use Rattle.std.specs.Str.{bytes_eq}
 use Rattle.module_tree.specs.Modules.{most_modules}
 use Rattle.def_map.specs.declared.closure.ClosureError.{ClosureError}
@@ -22,8 +22,7 @@ use Rattle.def_map.specs.Facts.{Fact, Derives, IsGlobCopy}
 use Rattle.def_map.specs.ModuleOrder.{are_behind}
 use Rattle.def_map.specs.Numbering.{path_names, asked_items}
 use Rattle.def_map.specs.Numbers.{crate_by_numbers, IsNumbering}
-use Rattle.def_map.specs.Parts.{CrateSources, allowing}
-use Rattle.def_map.specs.Tables.{crate_of, parents_of}
+use Rattle.def_map.specs.Tables.{CrateSources, crate_of, parents_of}
 
 -- how many `macro_rules` have the only name of a path
 abbrev pub macros_called : List (List ℕ × ItemKey) → List (List ℕ) → ℕ
@@ -79,15 +78,11 @@ module _ (c : Crate (List ℕ) ItemKey) where
   IsCrateRefused TooManyJoins = (l : Loop) × HasTooManyJoins l.table l.seeds
 
 -- when each error comes
-abbrev pub AreSourcesRefused : CrateSources → DefMapError → Type 0
-AreSourcesRefused s OutOfMemory = Unit {0}
-AreSourcesRefused s TooManyModules = most_modules < length s.modules
-AreSourcesRefused s OutOfOrder = are_behind 0 (parents_of s.modules) ≡ false
-AreSourcesRefused s e = IsCrateRefused (crate_of s) e
-
--- it comes of the crate, or of it where lints are allowed
 abbrev pub AreImportsRefused : CrateSources → DefMapError → Type 0
-AreImportsRefused s e = AreSourcesRefused s e ⊎ AreSourcesRefused (allowing s) e
+AreImportsRefused s OutOfMemory = Unit {0}
+AreImportsRefused s TooManyModules = most_modules < length s.modules
+AreImportsRefused s OutOfOrder = are_behind 0 (parents_of s.modules) ≡ false
+AreImportsRefused s e = IsCrateRefused (crate_of s) e
 
 -- no more than may be, in order
 pub record IsSmall (s : CrateSources) : Type 0 where

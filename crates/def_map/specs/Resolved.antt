@@ -1,5 +1,5 @@
 -- What is told of the imports of a crate.
-use Rattle.std.specs.Prelude.{◌≡◌, ◌↔◌, ℕ, Bool, true, List, [], ◌∷◌, Some, map, flat_map, slice_get, if◌then◌else◌}
+use Rattle.std.specs.Prelude.{◌≡◌, ◌↔◌, ℕ, Bool, true, List, [], ◌∷◌, Some, map, flat_map, slice_get}
 use Rattle.hir_input.specs.declared.ids.FileAstId.{FileAstId}
 use Rattle.item_tree.specs.Imports as kept
 use Rattle.tree_walk.specs.Listed.{listed_import}
@@ -12,10 +12,7 @@ use Rattle.def_map.specs.Crates.{Crate}
 use Rattle.def_map.specs.Verdicts.{HasNoName, IsPrivate}
 use Rattle.def_map.specs.Told.{IsVerdict}
 use Rattle.def_map.specs.Targets.{AreTargets}
-use Rattle.def_map.specs.Found.{says_wrong}
-use Rattle.def_map.specs.Laws.{Completes, IsWrong}
-use Rattle.def_map.specs.Parts.{CrateSources, allowing}
-use Rattle.def_map.specs.Tables.{CrateRow, imports, rows_of, crate_of}
+use Rattle.def_map.specs.Tables.{CrateSources, CrateRow, imports, rows_of, crate_of}
 
 -- what is told of an import: that it has no name, or its verdict
 pub data IsTold {N I : Type 0} (c : Crate N I) (i : ℕ) : Verdict → Type 0 where
@@ -43,15 +40,3 @@ import_place r = (r.«module».0, r.item, listed_import r.«import»)
 pub record AreResolved (s : CrateSources) (resolved : List ResolvedImport) : Type 0 where
   pub places : map import_place resolved ≡ flat_map row_places (rows_of s)
   pub told : (i : ℕ) (r : ResolvedImport) → slice_get resolved i ≡ Some r → IsAnswer (crate_of s) i r.verdict r.is_private r.targets.items
-
--- ---- what stays wrong
-
-module _ (s : CrateSources) (resolved : List ResolvedImport) where
-  -- it is said which imports are wrong by lints alone: where these are allowed, they are not
-  abbrev pub AreLintsTold : Type 0
-  AreLintsTold = (i : ℕ) (r : ResolvedImport) → slice_get resolved i ≡ Some r → (r.is_lint ≡ true) ↔ ((says_wrong r.verdict ≡ true) × (IsWrong (crate_of (allowing s)) i → ⊥))
-
-  -- the imports that are wrong stay wrong in each completion of the crate; where they are not so by lints alone, also where these are allowed
-  abbrev pub StayWrong : Type 0
-  StayWrong = (i : ℕ) (r : ResolvedImport) → slice_get resolved i ≡ Some r → says_wrong r.verdict ≡ true
-      → (d : Crate (List ℕ) ItemKey) → Completes (crate_of (if r.is_lint then s else allowing s)) d → IsWrong d i

@@ -24,12 +24,27 @@ use Rattle.def_map.specs.declared.kinds.Visibility.TheVariants as seen_by
 use Rattle.def_map.specs.declared.{push.Owner.Owner, push.Place.Place, rows.ItemKey.ItemKey}
 use Rattle.def_map.specs.declared.attributes.Marks.{Marks}
 use Rattle.def_map.specs.Attributes.{attr_marks}
-use Rattle.def_map.specs.Parts.{Manifest, CrateSources, item_marks}
 use Rattle.def_map.specs.Crates.{Thing, a_module, an_item, a_scope, unseen, NameDeclaration, Binding, a_glob, a_name, underscore, nameless, PathImport, Veil, Crate, module_above, parent_of, narrower}
 use Rattle.def_map.specs.UseLeaves.{leaf_count}
 use Rattle.def_map.specs.Verdicts.{is_at_least}
 use Rattle.def_map.specs.Language.{builtin_crates, prelude_types, root_crates}
 use Rattle.language_names.specs.LanguageNames.{has_unknown, tools}
+
+-- what the manifest says: the features, and the names of other crates, if they are known
+pub record Manifest : Type 0 where
+  pub is_2015 : Bool
+  pub features : List (List ℕ)
+  pub crates : Option (List (List ℕ))
+
+-- what a crate is made of: its modules, the tree of each file by its number, and of the texts what no tree holds
+pub record CrateSources : Type 0 where
+  pub modules : List ModuleData
+  pub trees : List Unfolding
+  -- how often the word `macro_export` stands in each file
+  pub export_words : List ℕ
+  -- a file has the word `macro_expanded_macro_exports_accessed_by_absolute_paths`
+  pub allows_expanded : Bool
+  pub manifest : Manifest
 
 -- ---- what a place of a crate adds to its table
 
@@ -165,10 +180,6 @@ module _ (o : Owner) where
   mod_rows name v None = declares (record { parent = o.place.at; namespace = Types; name = name; thing = unseen; visibility = v; is_sure = false }) ∷ macro_veil ∷ []
   mod_rows name v (Some at) = name_row Types name (a_module at) v ∷ (if (inner_place at).is_certain then [] else veil at seen_by.Public ∷ [])
 
--- who sees the name of an `extern crate`
-abbrev pub crate_visibility : Bool → Visibility → Visibility
-crate_visibility allows_lints v = if allows_lints then seen_by.Public else v
-
 -- ---- who sees what
 
 -- the name of a module
@@ -204,7 +215,7 @@ module _ (parents : List (Option ℕ)) where
 -- ---- attributes
 
 abbrev pub marked_rows : ℕ → Marks → List CrateRow
-marked_rows at m = if m.is_unsure then veil at seen_by.Public ∷ macro_veil ∷ [] else if m.is_veiling then veil at seen_by.Public ∷ [] else []
+marked_rows at m = if m.is_veiling then veil at seen_by.Public ∷ [] else []
 
 -- by the features: of an item, or of a file, behind a false cfg nothing is seen but the cfg
 abbrev pub disabled_rows : List (List ℕ) → ℕ → CfgView → List CrateRow
@@ -214,8 +225,8 @@ abbrev pub present_by : List (List ℕ) → ℕ → Marks → Option CfgView →
 present_by features at m None rows = marked_rows at m ++ rows
 present_by features at m (Some cfg) rows = disabled_rows features at cfg
 
-abbrev pub present_rows : List (List ℕ) → ℕ → Marks → Collected → List CrateRow → List CrateRow
-present_rows features at m c rows = present_by features at m c.false_cfg rows
+abbrev pub present_rows : List (List ℕ) → ℕ → Collected → List CrateRow → List CrateRow
+present_rows features at c rows = present_by features at (attr_marks c.attrs) c.false_cfg rows
 
 -- ---- words of a text that its tree lacks
 
@@ -236,13 +247,9 @@ hidden_rows u words = if hides_exports u words then macro_veil ∷ [] else []
 
 -- ---- all that is added
 
-abbrev pub is_veil : CrateRow → Bool
-is_veil (veil at v) = true
-is_veil _ = false
-
--- where it is allowed to name them by paths: macros that macro calls of these rows export
-abbrev pub expanded_rows : Bool → List CrateRow → List CrateRow
-expanded_rows allows_lints rows = if allows_lints && list_any is_veil rows then macro_veil ∷ [] else []
+-- where a text allows macros that macros make to be named
+abbrev pub expanded_rows : Bool → List CrateRow
+expanded_rows allows_expanded = if allows_expanded then macro_veil ∷ [] else []
 
 -- a crate that the root has by its edition, unless it declares that name
 abbrev pub root_crate : List ℕ → CrateRow
@@ -278,7 +285,7 @@ module _ (parents : List (Option ℕ)) (s : CrateSources) where
   leaf_rows o see (struct_item name v shape c) = name_row o Types name (an_item (owner_key o)) (see v) ∷ ctor_rows parents o name (ctor_limit parents o.marks (see v)) (option_map (ctor_limit parents o.marks) (ctor_visibility parents see c))
   leaf_rows o see (outline name v) = mod_rows o name (see v) (module_of s.modules o.place.at o.id)
   leaf_rows o see (use_item v t) = use_rows o (see v) t
-  leaf_rows o see (extern_crate name v alias) = crate_rows o (crate_name name alias) (crate_visibility s.allows_lints (see v))
+  leaf_rows o see (extern_crate name v alias) = crate_rows o (crate_name name alias) (see v)
   leaf_rows o see (impl_item of_trait) = []
   leaf_rows o see (macro_call called expand_to ctxt) = call_rows o
   leaf_rows o see (macro_rules name) = macro_rows o name
@@ -294,17 +301,15 @@ module _ (parents : List (Option ℕ)) (s : CrateSources) where
 
   -- an item where it stands
   abbrev pub owner_of : Place → Node → Owner
-  owner_of p n = record { place = p; id = node_ast n; marks = item_marks s p.at (node_ast n) (node_head n).attrs.attrs }
+  owner_of p n = record { place = p; id = node_ast n; marks = attr_marks (node_head n).attrs.attrs }
 
   -- of an item with those in it, and of the items of a forest
   abbrev mutual
     pub node_rows : Place → Node → List CrateRow
-    node_rows p (leaf h l) =
-        let o = owner_of p (leaf h l) in
-        present_rows s.manifest.features p.at o.marks h.attrs (leaf_rows o (visibility_in p.at) l)
+    node_rows p (leaf h l) = present_rows s.manifest.features p.at h.attrs (leaf_rows (owner_of p (leaf h l)) (visibility_in p.at) l)
     node_rows p (parent h t f) =
         let o = owner_of p (parent h t f) in
-        present_rows s.manifest.features p.at o.marks h.attrs (trunk_rows o (visibility_in p.at) t ++ option_map_or (λ inner. forest_rows inner f) (place_inside o t) [])
+        present_rows s.manifest.features p.at h.attrs (trunk_rows o (visibility_in p.at) t ++ option_map_or (λ inner. forest_rows inner f) (place_inside o t) [])
 
     pub forest_rows : Place → Forest → List CrateRow
     forest_rows p empty = []
@@ -312,7 +317,7 @@ module _ (parents : List (Option ℕ)) (s : CrateSources) where
 
   -- of a module that is a file
   abbrev pub tree_rows : ℕ → Unfolding → List CrateRow
-  tree_rows at u = present_rows s.manifest.features at (attr_marks u.top_attrs.attrs) u.top_attrs (forest_rows (record { at = at; is_certain = not (attr_marks u.top_attrs.attrs).is_foreign }) u.forest)
+  tree_rows at u = present_rows s.manifest.features at u.top_attrs (forest_rows (record { at = at; is_certain = not (attr_marks u.top_attrs.attrs).is_foreign }) u.forest)
 
   abbrev pub file_rows : ℕ → Option ℕ → Option Unfolding → List CrateRow
   file_rows at words None = veil at seen_by.Public ∷ macro_veil ∷ []
@@ -327,11 +332,8 @@ module _ (parents : List (Option ℕ)) (s : CrateSources) where
   abbrev pub module_rows : ℕ × ModuleData → List CrateRow
   module_rows found = origin_rows found.0 found.1.file found.1.origin
 
-  abbrev pub place_rows : List CrateRow
-  place_rows = map root_crate (root_crates s.manifest.is_2015) ++ flat_map module_rows (enumerate_from 0 s.modules)
-
   abbrev pub rows_with : List CrateRow
-  rows_with = place_rows ++ expanded_rows s.allows_lints place_rows
+  rows_with = map root_crate (root_crates s.manifest.is_2015) ++ expanded_rows s.allows_expanded ++ flat_map module_rows (enumerate_from 0 s.modules)
 
 -- ---- the crate
 

@@ -6,14 +6,13 @@ use Rattle.def_map.specs.declared.push.Row.TheVariants.{Declares, Imports, Veil,
 use Rattle.def_map.specs.declared.sources.CrateSources as sources_code
 use Rattle.def_map.specs.declared.sources.Manifest as manifest_code
 use Rattle.def_map.specs.CrateView.{declared_view}
-use Rattle.def_map.specs.Parts.{Manifest, CrateSources}
-use Rattle.def_map.specs.Tables.{CrateRow, declares, imports, veil, macro_veil, defines_macro, names_crate}
+use Rattle.def_map.specs.Tables.{Manifest, CrateSources, CrateRow, declares, imports, veil, macro_veil, defines_macro, names_crate}
 
 abbrev pub crate_manifest_view : manifest_code.Manifest → Manifest
 crate_manifest_view m = record { is_2015 = m.is_2015; features = map string_bytes m.features.items; crates = option_map (λ names. names.items) m.crates }
 
 abbrev pub sources_view : sources_code.CrateSources → CrateSources
-sources_view s = record { modules = s.modules.now; trees = map (λ tree. tree.now) s.trees.now; export_words = s.export_words.now; unsure = map (λ ids. ids.items) s.unsure.now; allows_lints = s.allows_lints; manifest = crate_manifest_view s.manifest.now }
+sources_view s = record { modules = s.modules.now; trees = map (λ tree. tree.now) s.trees.now; export_words = s.export_words.now; allows_expanded = s.allows_expanded; manifest = crate_manifest_view s.manifest.now }
 
 abbrev pub crate_row_view : row_code.Row → CrateRow
 crate_row_view (Declares d) = declares (declared_view d)

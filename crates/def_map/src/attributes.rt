@@ -9,8 +9,6 @@ use language_names::{are_core_derives, is_language};
 /// What the attributes of an item do to its names.
 #[derive(Clone, Copy)]
 pub(crate) struct Marks {
-    /// A build script may take it away, or change it.
-    pub(crate) is_unsure: bool,
     /// Something that is not the language's may rewrite it.
     pub(crate) is_foreign: bool,
     /// Names may stand beside it that are not seen.
@@ -73,25 +71,10 @@ pub(crate) fn marks_of(attrs: &[Attr]) -> Marks
 {
     let is_foreign = have_foreign(attrs);
     Marks {
-        is_unsure: false,
         is_foreign,
         is_veiling: is_foreign || have_foreign_derive(attrs),
         is_test: have_test(attrs),
         is_exported: have("macro_export", attrs),
         is_non_exhaustive: have("non_exhaustive", attrs),
-    }
-}
-
-/// What attributes do, and a build script.
-pub(crate) fn marks_with(is_unsure: bool, marks: Marks) -> Marks
-    ensures { result ≡ spec.marks_with is_unsure marks }
-{
-    Marks {
-        is_unsure,
-        is_foreign: marks.is_foreign || is_unsure,
-        is_veiling: marks.is_veiling,
-        is_test: marks.is_test,
-        is_exported: marks.is_exported,
-        is_non_exhaustive: marks.is_non_exhaustive,
     }
 }

@@ -1,14 +1,13 @@
 //! What is told of the imports of a crate.
-ghost use Rattle.std.specs.Prelude.{◌≡◌, ◌++◌, ◌<◌, ◌&&◌, IfErr, IfOk, OnOk, length, map, not};
-ghost use Rattle.std.specs.List.{list_any};
+ghost use Rattle.std.specs.Prelude.{◌≡◌, ◌++◌, ◌<◌, IfErr, IfOk, OnOk, length, map};
 ghost use Rattle.std.specs.Vec.Iter.{into_iter_items};
-ghost use Rattle.def_map.specs.{CrateView.rows_view, Found.says_wrong};
+ghost use Rattle.def_map.specs.CrateView.{rows_view};
 ghost use Rattle.def_map.specs.Inner.Told as spec;
 ghost use Rattle.def_map.specs.Inner.Told.{AreAnswers, collected_crate, resolved_answer};
-ghost use Rattle.def_map.specs.Laws.{IsWhole, LetsExport};
-ghost use Rattle.def_map.specs.Refused.{AreImportsRefused, AreSourcesRefused, IsCrateRefused, IsCrateSmall, IsSmall};
-ghost use Rattle.def_map.specs.Resolved.{AreLintsTold, AreResolved, StayWrong};
-ghost use Rattle.def_map.specs.{Parts.allowing, Tables.crate_of};
+ghost use Rattle.def_map.specs.Laws.{IsWhole};
+ghost use Rattle.def_map.specs.Refused.{AreImportsRefused, IsCrateRefused, IsCrateSmall, IsSmall};
+ghost use Rattle.def_map.specs.Resolved.{AreResolved};
+ghost use Rattle.def_map.specs.Tables.{crate_of};
 ghost use Rattle.def_map.specs.Views.{crate_row_view, sources_view};
 
 use crate::closure::{ClosureError, find_closure};
@@ -153,45 +152,22 @@ pub struct ResolvedImport {
     /// The import itself, with the number of its use tree there.
     pub import: Listed,
     pub verdict: Verdict,
-    /// It is wrong, but by lints alone: `macro_expanded_macro_exports_accessed_by_absolute_paths` and
-    /// `pub_use_of_private_extern_crate`. Where these are allowed, it may be right.
-    pub is_lint: bool,
     /// A name that it asks for stands where it asks, but for others.
     pub is_private: bool,
     /// All that it leads to, each once.
     pub targets: Vec<Target>,
 }
 
-fn is_wrong_at(told: &[Told], at: usize) -> bool
-    ensures { result ≡ spec.is_wrong_at told.now at }
-{
-    match told.get(at) {
-        Some(told) => told.verdict.is_wrong(),
-        None => false,
-    }
-}
-
-/// Whether an import of which this is told is wrong, and not where lints are allowed.
-fn is_by_lint(verdict: Verdict, lax: &[Told], at: usize) -> bool
-    ensures { result ≡ (says_wrong verdict && not (spec.is_wrong_at lax.now at)) }
-{
-    verdict.is_wrong() && !is_wrong_at(lax, at)
-}
-
-/// Adds the import of a row, if it is one, with what is told next, and by what is told where lints are allowed.
-#[tactic(auto, using(crate::proofs::Lints::marked_more))]
+/// Adds the import of a row, if it is one, with what is told next.
 fn push_resolved(
     row: Row<'_>,
     told: &mut IntoIter<Told>,
-    lax: &[Told],
     resolved: &mut Vec<ResolvedImport>,
 ) -> Result<(), AllocError>
     ensures answers { OnOk result (map resolved_answer resolved.new.items ≡ map resolved_answer resolved.old.items
         ++ spec.row_answers (crate_row_view row.entry) (into_iter_items told.old)) }
     ensures left { OnOk result
         (into_iter_items told.new ≡ spec.told_left (crate_row_view row.entry) (into_iter_items told.old)) }
-    ensures marked { OnOk result (spec.AreMarked lax.now resolved.old.items
-        → spec.AreMarked lax.now resolved.new.items) }
 {
     let Row::Imports(used) = row else {
         return Ok(());
@@ -199,13 +175,11 @@ fn push_resolved(
     let Some(told) = told.next() else {
         return Ok(());
     };
-    let is_lint = is_by_lint(told.verdict, lax, resolved.len());
     resolved.push(ResolvedImport {
         module: ModuleId(used.parent as usize),
         item: used.id,
         import: used.listed,
         verdict: told.verdict,
-        is_lint,
         is_private: told.is_private,
         targets: told.targets,
     })?;
@@ -217,17 +191,15 @@ fn resolve_rows(
     alloc: Global,
     rows: Vec<Row<'_>>,
     told: Vec<Told>,
-    lax: &[Told],
 ) -> Result<Vec<ResolvedImport>, AllocError>
-    ensures answers { IfOk result (λ resolved.
+    ensures { IfOk result (λ resolved.
         map resolved_answer resolved.items
         ≡ spec.rows_answers (map crate_row_view rows.entry.items) told.items) }
-    ensures marked { IfOk result (λ resolved. spec.AreMarked lax.now resolved.items) }
 {
     let mut told = told.into_iter();
     let mut resolved = Vec::new(alloc);
     for row in rows {
-        push_resolved(row, &mut told, lax, &mut resolved)?;
+        push_resolved(row, &mut told, &mut resolved)?;
     }
     Ok(resolved)
 }
@@ -260,51 +232,7 @@ fn tell_rows(
     tell_crate(alloc, &rows)
 }
 
-fn is_any_wrong(told: &[Told]) -> bool
-    ensures { result ≡ list_any spec.is_told_wrong told.now }
-{
-    told.iter().any(|told| told.verdict.is_wrong())
-}
-
-/// What is told of each import of a crate, from what it is made of.
-fn tell_sources(alloc: Global, sources: &CrateSources<'_>) -> Result<Vec<Told>, DefMapError>
-    ensures told { IfOk result (λ told. AreAnswers (crate_of (sources_view sources.now)) told.items) }
-    ensures refused { IfErr result (AreSourcesRefused (sources_view sources.now)) }
-{
-    let collected = collect(alloc, sources)?;
-    tell_rows(alloc, &collected, sources.manifest)
-}
-
-fn allowing<'t>(sources: &CrateSources<'t>) -> CrateSources<'t>
-    ensures { sources_view result ≡ allowing (sources_view sources.now) }
-{
-    CrateSources {
-        modules: sources.modules,
-        trees: sources.trees,
-        export_words: sources.export_words,
-        unsure: sources.unsure,
-        allows_lints: true,
-        manifest: sources.manifest,
-    }
-}
-
-/// What is told of each import of a crate where lints are allowed, if any is wrong.
-fn tell_lax(
-    alloc: Global,
-    sources: &CrateSources<'_>,
-    told: &[Told],
-) -> Result<Vec<Told>, DefMapError>
-    ensures told { IfOk result (λ lax. spec.IsLaxTold (sources_view sources.now) told.now lax.items) }
-    ensures refused { IfErr result (AreSourcesRefused (allowing (sources_view sources.now))) }
-{
-    if !is_any_wrong(told) {
-        return Ok(Vec::new(alloc));
-    }
-    tell_sources(alloc, &allowing(sources))
-}
-
-/// The imports of a crate, in the order in which they are written, and what is told of each. What is told to be wrong
-/// stays so, whatever macros write and other crates hold.
+/// The imports of a crate, in the order in which they are written, and what is told of each.
 ///
 /// # Errors
 ///
@@ -317,16 +245,11 @@ pub fn resolve_imports(
     ensures resolved { IfOk result (λ imports. AreResolved (sources_view sources.entry) imports.items) }
     ensures whole { OnOk result (0 < length sources.entry.modules.now
         → IsWhole (crate_of (sources_view sources.entry))) }
-    ensures lints { IfOk result (λ imports. AreLintsTold (sources_view sources.entry) imports.items) }
-    ensures stays { IfOk result (λ imports. 0 < length sources.entry.modules.now
-        → StayWrong (sources_view sources.entry) imports.items) }
-    ensures open { OnOk result (LetsExport (crate_of (allowing (sources_view sources.entry)))) }
     ensures few { OnOk result (IsSmall (sources_view sources.entry)) }
     ensures refused { IfErr result (AreImportsRefused (sources_view sources.entry)) }
 {
     let collected = collect(alloc, &sources)?;
     let told = tell_rows(alloc, &collected, sources.manifest)?;
-    let lax = tell_lax(alloc, &sources, &told)?;
-    let imports = resolve_rows(alloc, collected.rows, told, &lax)?;
+    let imports = resolve_rows(alloc, collected.rows, told)?;
     Ok(imports)
 }

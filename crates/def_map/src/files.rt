@@ -1,7 +1,7 @@
 //! What the files of a crate add to its table.
-ghost use Rattle.std.specs.Prelude.{◌≡◌, ◌&&◌, [], ◌∷◌, IfOk, OnOk, count_by, flat_map, map, nat_lt, option_copied};
+ghost use Rattle.std.specs.Prelude.{◌≡◌, [], ◌∷◌, IfOk, OnOk, count_by, flat_map, map, nat_lt, option_copied};
 ghost use Rattle.std.specs.Prelude.{slice_get, sum_by};
-ghost use Rattle.std.specs.List.{enumerate_from, list_any};
+ghost use Rattle.std.specs.List.{enumerate_from};
 ghost use Rattle.item_tree.specs.Walk.{of_id};
 ghost use Rattle.item_tree_attrs.specs.Key.{has_key};
 ghost use Rattle.def_map.specs.Inner.Walking.{AddsRows};
@@ -181,38 +181,10 @@ fn push_root_crates<'t>(names: &'t [Name], rows: &mut Vec<Row<'t>>) -> Result<()
     Ok(())
 }
 
-fn is_veil(row: &Row<'_>) -> bool
-    ensures { result ≡ spec.is_veil (crate_row_view row.now) }
+fn push_expanded(allows_expanded: bool, rows: &mut Vec<Row<'_>>) -> Result<(), AllocError>
+    ensures { OnOk result (AddsRows rows.old.items rows.new.items (spec.expanded_rows allows_expanded)) }
 {
-    matches!(row, Row::Veil(_, _))
-}
-
-/// Whether macros may be called that are not seen.
-fn has_veil(rows: &[Row<'_>]) -> bool
-    ensures { result ≡ list_any (λ row. spec.is_veil (crate_row_view row)) rows.now }
-{
-    for row in rows {
-        if is_veil(row) {
-            return true;
-        }
-    }
-    false
-}
-
-/// Whether macros may be named that macro calls of these rows export.
-#[tactic(auto, using(crate::proofs::RootVeils::any_veils))]
-fn names_expanded(allows_lints: bool, rows: &[Row<'_>]) -> bool
-    ensures { result ≡ (allows_lints && list_any spec.is_veil (map crate_row_view rows.now)) }
-{
-    allows_lints && has_veil(rows)
-}
-
-/// Adds these.
-fn push_expanded(allows_lints: bool, rows: &mut Vec<Row<'_>>) -> Result<(), AllocError>
-    ensures { let expanded = spec.expanded_rows allows_lints (map crate_row_view rows.old.items) in
-        OnOk result (AddsRows rows.old.items rows.new.items expanded) }
-{
-    if names_expanded(allows_lints, rows) {
+    if allows_expanded {
         rows.push(Row::MacroVeil)?;
     }
     Ok(())
@@ -225,8 +197,8 @@ pub(crate) fn rows_with<'t>(ctx: &Ctx<'_, 't>) -> Result<Vec<Row<'t>>, AllocErro
 {
     let mut rows = Vec::new(ctx.alloc);
     push_root_crates(ctx.sources.manifest.root_crates(), &mut rows)?;
+    push_expanded(ctx.sources.allows_expanded, &mut rows)?;
     push_modules(ctx, &mut rows)?;
-    push_expanded(ctx.sources.allows_lints, &mut rows)?;
     Ok(rows)
 }
 

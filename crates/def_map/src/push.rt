@@ -293,16 +293,6 @@ pub(crate) fn crate_name(item: &ExternCrate) -> Option<&Name>
     }
 }
 
-/// Who sees the name of an extern crate.
-pub(crate) fn crate_visibility(allows_lints: bool, visibility: Visibility) -> Visibility
-    ensures { result ≡ spec.crate_visibility allows_lints visibility }
-{
-    if allows_lints {
-        return Visibility::Public;
-    }
-    visibility
-}
-
 /// Adds the name of an extern crate.
 pub(crate) fn push_crate<'t>(
     owner: &Owner,

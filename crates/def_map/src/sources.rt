@@ -3,7 +3,7 @@ ghost use Rattle.std.specs.Prelude.{◌≡◌, ◌++◌, ◌∷◌, [], IfOk, On
 ghost use Rattle.hir_input.specs.Name.{is_name};
 ghost use Rattle.def_map.specs.Language.{root_crates};
 
-use hir_input::{FileAstId, Name};
+use hir_input::Name;
 use item_tree::ItemTree;
 use module_tree::ModuleData;
 use std::alloc::{AllocError, Global};
@@ -85,10 +85,7 @@ pub struct CrateSources<'a> {
     /// How often the word `macro_export` stands in the text of each file. (Items in bodies are in no tree.) Of a file
     /// with no count macros may be exported that are not seen.
     pub export_words: &'a [u32],
-    /// The items of each file that a build script may take away, or change: `language_names::unsure_items`.
-    pub unsure: &'a [Vec<FileAstId>],
-    /// The lints `macro_expanded_macro_exports_accessed_by_absolute_paths` and `pub_use_of_private_extern_crate` are
-    /// allowed. If not, `ResolvedImport::is_lint` says what is wrong by them alone.
-    pub allows_lints: bool,
+    /// A text has the word `macro_expanded_macro_exports_accessed_by_absolute_paths`.
+    pub allows_expanded: bool,
     pub manifest: &'a Manifest,
 }

@@ -25,18 +25,6 @@ pub enum Verdict {
     Nameless,
 }
 
-impl Verdict {
-    /// Whether an import of which this is told is wrong.
-    pub fn is_wrong(self) -> bool
-        ensures { result ≡ spec.says_wrong self }
-    {
-        match self {
-            Verdict::Unresolved | Verdict::TooWide | Verdict::Nameless => true,
-            Verdict::Unknown | Verdict::Resolved => false,
-        }
-    }
-}
-
 /// Where an import leads.
 #[derive(Clone, Copy, PartialEq, Eq)]
 pub struct Lead {

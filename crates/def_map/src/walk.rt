@@ -1,20 +1,18 @@
 //! The walk of a crate's trees: what each item adds to its table.
 ghost use Rattle.std.specs.Prelude.{◌≡◌, OnOk, Some, option_map, flat_map};
-ghost use Rattle.std.specs.List.{list_any};
 ghost use Rattle.hir_input.specs.Cfg.{cfg_view};
 ghost use Rattle.item_tree.specs.{Shown.IsContained, Shown.lent_kind, Walk.AreContained};
 ghost use Rattle.def_map.specs.Inner.Walking.{collected_in, id_rows, lent_inside, lent_other, lent_own, lent_plain};
 ghost use Rattle.def_map.specs.Inner.Walking.{plain_rows, plain_view, AddsRows};
-ghost use Rattle.def_map.specs.Parts as parts;
 ghost use Rattle.def_map.specs.Tables as spec;
 ghost use Rattle.def_map.specs.Views.{sources_view};
 
-use crate::attributes::{Marks, marks_of, marks_with};
+use crate::attributes::{Marks, marks_of};
 use crate::ctx::Ctx;
 use crate::kinds::Visibility;
 use crate::push::{
-    Owner, Place, Row, crate_name, crate_visibility, push_call, push_const, push_crate, push_macro,
-    push_mod, push_struct, push_use,
+    Owner, Place, Row, crate_name, push_call, push_const, push_crate, push_macro, push_mod,
+    push_struct, push_use,
 };
 use crate::visibility::seen_by;
 use hir_input::ast::PlainKind;
@@ -22,7 +20,6 @@ use hir_input::{Attr, CfgExpr, FileAstId, Name};
 use item_tree::{ItemTree, ModItemId, ModItemKind, ModKind, RawVisibilityId};
 use item_tree_attrs::AttrsOrCfg;
 use language_names::has_unknown;
-use module_tree::ModuleData;
 use std::alloc::AllocError;
 use tree_walk::children;
 
@@ -75,49 +72,10 @@ pub(crate) fn push_disabled(
 pub(crate) fn push_marked(at: u32, marks: &Marks, rows: &mut Vec<Row<'_>>) -> Result<(), AllocError>
     ensures { OnOk result (AddsRows rows.old.items rows.new.items (spec.marked_rows at marks.now)) }
 {
-    if marks.is_unsure {
-        rows.push(Row::Veil(at, Visibility::Public))?;
-        rows.push(Row::MacroVeil)?;
-        return Ok(());
-    }
     if marks.is_veiling {
         rows.push(Row::Veil(at, Visibility::Public))?;
     }
     Ok(())
-}
-
-/// The items of a module's file that a build script may change.
-#[tactic(auto, using(crate::proofs::LentItems::unsure_lent))]
-fn unsure_ids<'t>(ctx: &Ctx<'_, 't>, module_data: &ModuleData) -> &'t [FileAstId]
-    ensures { result.now ≡ parts.unsure_ids (sources_view ctx.now.sources) module_data.now }
-{
-    match ctx.sources.unsure.get(module_data.file as usize) {
-        Some(ids) => ids.as_slice(),
-        None => &[],
-    }
-}
-
-fn is_one(ids: &[FileAstId], id: FileAstId) -> bool
-    ensures { result ≡ list_any (λ one. ⟦<FileAstId as PartialEq>⟧.eq one id) ids.now }
-{
-    ids.iter().any(|one| *one == id)
-}
-
-/// Whether a build script may change an item of a module.
-fn is_unsure(ctx: &Ctx<'_, '_>, at: u32, id: FileAstId) -> bool
-    ensures { result ≡ parts.is_unsure (sources_view ctx.now.sources) at id }
-{
-    match ctx.sources.modules.get(at as usize) {
-        Some(found) => is_one(unsure_ids(ctx, found), id),
-        None => false,
-    }
-}
-
-/// What is asked of an item in a module.
-fn item_marks(ctx: &Ctx<'_, '_>, at: u32, id: FileAstId, attrs: &[Attr]) -> Marks
-    ensures { result ≡ parts.item_marks (sources_view ctx.now.sources) at id attrs.now }
-{
-    marks_with(is_unsure(ctx, at, id), marks_of(attrs))
 }
 
 /// An item that is nothing but its kind, its name and its visibility.
@@ -203,7 +161,6 @@ fn push_other<'t>(
         }
         ModItemKind::ExternCrate(_, x) => {
             let visibility = seen_by(ctx, tree, at, x.visibility);
-            let visibility = crate_visibility(ctx.sources.allows_lints, visibility);
             push_crate(owner, crate_name(x), visibility, rows)
         }
         ModItemKind::MacroCall(_, _) => push_call(owner, rows),
@@ -280,12 +237,11 @@ fn push_item<'t>(
     if let Some(cfg) = false_cfg_in(lent) {
         return push_disabled(ctx, place.at, cfg, rows);
     }
-    let own = id.ast_id(tree);
-    let marks = item_marks(ctx, place.at, own, attrs_in(lent));
+    let marks = marks_of(attrs_in(lent));
     push_marked(place.at, &marks, rows)?;
     let owner = Owner {
         place,
-        id: own,
+        id: id.ast_id(tree),
         marks,
     };
     let item = tree.index(id);

@@ -203,11 +203,8 @@ impl Run<'_> {
     /// Tells what is wrong with modules, and with imports if nothing is wrong with the files: what is missing there may
     /// be what is damaged.
     fn tell_crates(&mut self, found: &CratesFound) -> Result<(), Failure> {
-        if self.report.status == 0 {
-            self.report.write(&found.warnings)?;
-            if !found.imports.is_empty() {
-                self.report.write_wrong(&found.imports)?;
-            }
+        if self.report.status == 0 && !found.imports.is_empty() {
+            self.report.write_wrong(&found.imports)?;
         }
         if !found.unresolved.is_empty() {
             self.report.write_wrong(&found.unresolved)?;

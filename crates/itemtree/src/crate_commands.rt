@@ -86,15 +86,15 @@ fn unresolved_in(
     Ok(lines)
 }
 
-/// The lines of the imports of crates that are wrong, and warnings of those that are by lints alone.
+/// The lines of the imports of crates that are wrong.
 fn wrong_imports_in(
     report: &mut Report<'_>,
     sources: &CrateSources<'_>,
     manifest: &Manifest,
     trees: &[ModuleTree],
-) -> Result<(String, String), Failure> {
+) -> Result<String, Failure> {
     let (alloc, is_colored) = (report.rt.alloc(), report.is_colored());
-    let (mut lines, mut warnings) = (String::new(alloc), String::new(alloc));
+    let mut lines = String::new(alloc);
     for tree in trees {
         if let Some(file) = sources.lacks_paths(tree) {
             report.note(Shown(file.path()), UNCHECKED);
@@ -103,16 +103,13 @@ fn wrong_imports_in(
         match sources.resolved_imports(tree, manifest) {
             Ok(imports) => {
                 let files = sources.files();
-                let wrong = wrong_imports(alloc, &imports, tree, files, false, is_colored)?;
-                let warned = wrong_imports(alloc, &imports, tree, files, true, is_colored)?;
-                lines.push_str(&wrong)?;
-                warnings.push_str(&warned)?;
+                lines.push_str(&wrong_imports(alloc, &imports, tree, files, is_colored)?)?;
             }
             Err(DefMapError::OutOfMemory) => return Err(Failure::from(AllocError)),
             Err(error) => report.complain("imports", error),
         }
     }
-    Ok((lines, warnings))
+    Ok(lines)
 }
 
 /// What is found of crates.
@@ -126,8 +123,6 @@ pub(crate) struct CratesFound {
     pub(crate) unresolved: String,
     /// The lines of the imports that are wrong, if these are asked for.
     pub(crate) imports: String,
-    /// And of those that are wrong by lints alone.
-    pub(crate) warnings: String,
 }
 
 impl CratesFound {
@@ -137,7 +132,6 @@ impl CratesFound {
             roots: Vec::new(alloc),
             unresolved: String::new(alloc),
             imports: String::new(alloc),
-            warnings: String::new(alloc),
         }
     }
 }
@@ -205,14 +199,8 @@ pub(crate) fn crates_found(
         let unresolved = unresolved_in(&one.sources, alloc, options, &one.trees, is_colored)?;
         found.unresolved.push_str(&unresolved)?;
         if wants_imports {
-            let (imports, warnings) = wrong_imports_in(
-                report,
-                &one.sources,
-                &one.root.facts,
-                &one.trees,
-            )?;
+            let imports = wrong_imports_in(report, &one.sources, &one.root.facts, &one.trees)?;
             found.imports.push_str(&imports)?;
-            found.warnings.push_str(&warnings)?;
         }
     }
     Ok(found)

@@ -4,18 +4,20 @@ use crate::files::Room;
 use crate::sure_modules::sure_modules;
 use crate::walk::{Fault, Found};
 use def_map::{DefMapError, Manifest, ResolvedImport, resolve_imports};
-use hir_input::{EditionYear, FileAstId};
 use item_tree::ItemTree;
 use itemtree_commands::{CrateFile, Options};
-use language_names::unsure_items;
 use module_tree::{KnownFiles, KnownPath, ModuleChoice, ModuleTree, ModuleTreeError, module_tree};
-use rust_items::{Wanted, WantedMetas};
-use source_rows::read_listed;
 use std::alloc::{AllocError, Global};
 use std::collections::{BTreeMap, BTreeSet};
 use std::fs;
 use std::fs::Metadata;
 use std::os::unix::fs::{FileTypeExt, MetadataExt};
+
+/// The lint that forbids to name macros by paths that other macros make, and its group.
+const EXPANDED_WORDS: [&str; 2] = [
+    "macro_expanded_macro_exports_accessed_by_absolute_paths",
+    "future_incompatible",
+];
 
 /// A file, by the numbers of its device and of itself.
 type FileId = (u64, u64);
@@ -39,24 +41,9 @@ fn ends(rt: &HostRuntime, found: &Metadata) -> bool {
     same && found.file_type().is_char_device()
 }
 
-/// The items of a file that a build script may take away, or change.
-fn unsure_of(
-    alloc: Global,
-    file: &CrateFile,
-    features: &[String],
-    edition: EditionYear,
-) -> Result<Vec<FileAstId>, AllocError> {
-    if !file.text().contains("cfg") {
-        return Ok(Vec::new(alloc));
-    }
-    let wanted = Wanted {
-        bodies: false,
-        metas: WantedMetas::Undocumented,
-    };
-    match read_listed(alloc, file.text(), wanted, edition) {
-        Ok(read) => unsure_items(alloc, features, &read.file.syntax),
-        Err(_) => Err(AllocError),
-    }
+/// Whether a text may allow to name macros by paths that other macros make.
+fn allows_expanded(text: &str) -> bool {
+    EXPANDED_WORDS.iter().any(|word| text.contains(word))
 }
 
 /// What is known of the files of a crate.
@@ -273,17 +260,6 @@ impl<'a> CrateSources<'a> {
         Ok(words)
     }
 
-    /// The items of each file that a build script may take away, or change.
-    fn unsure(&self, manifest: &Manifest) -> Result<Vec<Vec<FileAstId>>, AllocError> {
-        let alloc = self.rt.alloc();
-        let (features, edition) = (&manifest.features, self.options.edition.year);
-        let mut unsure = Vec::new(alloc);
-        for file in &self.files {
-            unsure.push(unsure_of(alloc, file, features, edition)?)?;
-        }
-        Ok(unsure)
-    }
-
     /// The first file of a crate whose tree does not tell where the path of each import begins.
     pub(crate) fn lacks_paths(&self, tree: &ModuleTree) -> Option<&CrateFile> {
         for module in &tree.modules {
@@ -302,13 +278,11 @@ impl<'a> CrateSources<'a> {
         manifest: &Manifest,
     ) -> Result<Vec<ResolvedImport>, DefMapError> {
         let (trees, export_words) = (self.trees()?, self.export_words()?);
-        let unsure = self.unsure(manifest)?;
         let sources = def_map::CrateSources {
             modules: &tree.modules,
             trees: &trees,
             export_words: &export_words,
-            unsure: &unsure,
-            allows_lints: false,
+            allows_expanded: self.files.iter().any(|file| allows_expanded(file.text())),
             manifest,
         };
         resolve_imports(self.rt.alloc(), sources)

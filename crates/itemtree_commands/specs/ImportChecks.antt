@@ -1,5 +1,5 @@
 -- What is told of the imports of a crate that are wrong.
-use Rattle.std.specs.Prelude.{ℕ, Bool, true, false, if◌then◌else◌, List, [], ◌++◌, codes, map, slice_get, Option, Some, None, option_and_then, option_map}
+use Rattle.std.specs.Prelude.{ℕ, Bool, if◌then◌else◌, List, [], codes, map, slice_get, Option, Some, None, option_and_then}
 use Rattle.std.specs.Option.{option_map_or}
 use Rattle.def_map.specs.declared.def_map.ResolvedImport.{ResolvedImport}
 use Rattle.def_map.specs.declared.verdict.Verdict.{Verdict}
@@ -21,29 +21,15 @@ fault_words Nameless is_private = Some (codes "this import has no name")
 fault_words Unknown is_private = None
 fault_words Resolved is_private = None
 
--- the same as a warning
-abbrev pub warning_words : Verdict → Bool → Option (List ℕ)
-warning_words verdict is_private = option_map (λ words. codes "warning: " ++ words) (fault_words verdict is_private)
-
--- of an import that is wrong by lints alone, if these are asked for, or of one that is wrong without them
-abbrev pub words_by_lint : Bool → Bool → Verdict → Bool → Option (List ℕ)
-words_by_lint true true verdict is_private = warning_words verdict is_private
-words_by_lint true false verdict is_private = None
-words_by_lint false true verdict is_private = None
-words_by_lint false false verdict is_private = fault_words verdict is_private
-
-abbrev pub import_words : Bool → ResolvedImport → Option (List ℕ)
-import_words lints import = words_by_lint lints import.is_lint import.verdict import.is_private
-
 -- where an import of a file stands
 abbrev pub import_position : List PlacedText → ℕ → ResolvedImport → Option Position
 import_position texts file import = option_and_then (tree_position_in_text import.item (listed_import import.«import»).index) (slice_get texts file)
 
--- the line of an import, if it has one, by the texts of these files
-abbrev pub placed_line : Bool → Bool → List ModuleData → List CrateFile → List PlacedText → ResolvedImport → List ℕ
-placed_line lints is_colored ms files texts import =
+-- the line of an import, by the texts of these files
+abbrev pub placed_line : Bool → List ModuleData → List CrateFile → List PlacedText → ResolvedImport → List ℕ
+placed_line is_colored ms files texts import =
     let file = file_of_module ms import.«module» in
-    option_map_or (fault_line is_colored (file_path files file) (import_position texts file import)) (import_words lints import) []
+    option_map_or (fault_line is_colored (file_path files file) (import_position texts file import)) (fault_words import.verdict import.is_private) []
 
-abbrev pub wrong_import_line : Bool → Bool → List ModuleData → List CrateFile → ResolvedImport → List ℕ
-wrong_import_line lints is_colored ms files import = placed_line lints is_colored ms files (map placed_text files) import
+abbrev pub wrong_import_line : Bool → List ModuleData → List CrateFile → ResolvedImport → List ℕ
+wrong_import_line is_colored ms files import = placed_line is_colored ms files (map placed_text files) import

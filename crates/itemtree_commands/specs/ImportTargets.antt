@@ -90,7 +90,7 @@ placed_target files ms ps Unseen = []
 abbrev pub is_wrong : Verdict → Bool
 is_wrong verdict = is_some (fault_words verdict false)
 
--- where something else is wrong with the files, what is missing may be what is damaged; what lints alone refuse may be allowed
+-- where something else is wrong with the files, what is missing may be what is damaged
 abbrev pub verdict_if_whole : Bool → Verdict → Verdict
 verdict_if_whole is_whole verdict = if is_whole then verdict else (if is_wrong verdict then Unknown else verdict)
 
@@ -183,7 +183,7 @@ told_entry Json t = value_line (lead_object t)
 -- of an import, if it is listed, by the texts of the files and the modules with their paths
 abbrev pub entry_if_listed : ImportLook → List (List ℕ) → List CrateFile → List PlacedText → List ModuleData → List Pathed → ResolvedImport → List ℕ
 entry_if_listed look reserved files texts ms ps r =
-    let verdict = verdict_if_whole (look.is_whole && not r.is_lint) r.verdict in
+    let verdict = verdict_if_whole look.is_whole r.verdict in
     if look.only_wrong && not (is_wrong verdict) then [] else told_entry look.form (told_import reserved files texts ms ps verdict r)
 
 -- the line or the object of an import, with what it leads to, if it is listed

@@ -1,5 +1,5 @@
 //! What `check --crate` tells of imports.
-ghost use Rattle.std.specs.Prelude.{◌≡◌, ◌++◌, codes, IfOk, OnOk, flat_map, map, string_bytes, unwrap_or, option_map};
+ghost use Rattle.std.specs.Prelude.{◌≡◌, ◌++◌, IfOk, OnOk, flat_map, map, string_bytes, unwrap_or, option_map};
 ghost use Rattle.itemtree_commands.specs.ImportChecks as spec;
 ghost use Rattle.itemtree_commands.specs.ModuleLists.{placed_text};
 
@@ -33,41 +33,6 @@ fn fault_words(verdict: Verdict, is_private: bool) -> Option<&'static str>
     }
 }
 
-fn unresolved_warning(is_private: bool) -> &'static str
-    ensures { result.now ≡ codes "warning: " ++ spec.unresolved_words is_private }
-{
-    if is_private {
-        "warning: this import names what it does not see"
-    } else {
-        "warning: this import leads to nothing"
-    }
-}
-
-/// The same as a warning.
-fn warning_words(verdict: Verdict, is_private: bool) -> Option<&'static str>
-    ensures { option_map (λ words. words.now) result ≡ spec.warning_words verdict is_private }
-{
-    match verdict {
-        Verdict::Unresolved => Some(unresolved_warning(is_private)),
-        Verdict::TooWide => {
-            Some("warning: what this import names is seen by fewer than the import")
-        }
-        Verdict::Nameless => Some("warning: this import has no name"),
-        Verdict::Unknown | Verdict::Resolved => None,
-    }
-}
-
-/// What is wrong with an import by lints alone, or without them.
-fn import_words(lints: bool, import: &ResolvedImport) -> Option<&'static str>
-    ensures { option_map (λ words. words.now) result ≡ spec.import_words lints import.now }
-{
-    match (lints, import.is_lint) {
-        (true, true) => warning_words(import.verdict, import.is_private),
-        (false, false) => fault_words(import.verdict, import.is_private),
-        (true, false) | (false, true) => None,
-    }
-}
-
 /// Where an import of a file stands.
 pub(crate) fn import_position(
     finders: &mut [PlaceFinder<'_>],
@@ -87,7 +52,6 @@ pub(crate) fn import_position(
 
 /// The line of an import, if anything is wrong with it.
 fn push_import(
-    lints: bool,
     is_colored: bool,
     modules: &[ModuleData],
     files: &[CrateFile],
@@ -95,11 +59,11 @@ fn push_import(
     import: &ResolvedImport,
     out: &mut String,
 ) -> Result<(), AllocError>
-    ensures text { let line = spec.placed_line lints is_colored modules.now files.now finders.old import.now in
+    ensures text { let line = spec.placed_line is_colored modules.now files.now finders.old import.now in
         OnOk result (string_bytes out.new ≡ string_bytes out.old ++ line) }
     ensures same { finders.new ≡ finders.old }
 {
-    let Some(words) = import_words(lints, import) else {
+    let Some(words) = fault_words(import.verdict, import.is_private) else {
         return Ok(());
     };
     let file = file_of(modules, import.module);
@@ -108,8 +72,7 @@ fn push_import(
 }
 
 /// A line for each import of a crate that is wrong whatever macros and other crates hold: where its use tree stands,
-/// and why; in colours or not. Of those that are wrong by lints alone it is a warning, if these are asked for, and of
-/// the others if not.
+/// and why; in colours or not.
 ///
 /// # Errors
 ///
@@ -119,10 +82,9 @@ pub fn wrong_imports(
     imports: &[ResolvedImport],
     tree: &ModuleTree,
     files: &[CrateFile],
-    lints: bool,
     is_colored: bool,
 ) -> Result<String, AllocError>
-    ensures { let line = spec.wrong_import_line lints is_colored tree.now.modules.items files.now in
+    ensures { let line = spec.wrong_import_line is_colored tree.now.modules.items files.now in
         IfOk result (λ text. string_bytes text ≡ flat_map line imports.now) }
 {
     let modules = tree.modules.as_slice();
@@ -130,7 +92,6 @@ pub fn wrong_imports(
     let mut out = String::new(alloc);
     for import in imports {
         push_import(
-            lints,
             is_colored,
             modules,
             files,

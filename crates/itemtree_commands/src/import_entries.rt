@@ -270,8 +270,7 @@ fn push_import(
         OnOk result (string_bytes out.new ≡ string_bytes out.old ++ entry) }
     ensures same { finders.new ≡ finders.old }
 {
-    let is_whole = look.is_whole && !import.is_lint;
-    let verdict = verdict_if_whole(is_whole, import.verdict);
+    let verdict = verdict_if_whole(look.is_whole, import.verdict);
     if look.only_wrong && !is_wrong(verdict) {
         return Ok(());
     }

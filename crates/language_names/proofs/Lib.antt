@@ -1,3 +1,2 @@
 mod Cfgs
 mod Derives
-mod UnsureItems

@@ -1,2 +1,1 @@
 pub mod LanguageNames
-pub mod UnsureItems

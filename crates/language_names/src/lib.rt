@@ -6,10 +6,7 @@ ghost use Rattle.std.specs.{List.list_any, Cmp.Lexicographic.pointwise};
 ghost use Rattle.hir_input.specs.{Cfg.atom_view, Cfg.cfg_view, Name.is_among};
 ghost use Rattle.language_names.specs.LanguageNames as spec;
 
-mod unsure;
-
 use hir_input::{Attr, CfgAtom, CfgExpr, ModPath, PathKind};
-pub use unsure::unsure_items;
 
 const LANGUAGE_ATTRIBUTES: [&str; 70] = [
     "allow",

@@ -1,5 +1,5 @@
 -- For the crate's own functions: what is told of imports, by what was found.
-use Rattle.std.specs.Prelude.{◌≡◌, ◌<◌, ◌⊎◌, ◌&&◌, ℕ, Bool, true, false, not, nat_eq, List, [], ◌∷◌, ◌++◌, Some, map, length, slice_get}
+use Rattle.std.specs.Prelude.{◌≡◌, ◌<◌, ℕ, Bool, nat_eq, List, [], ◌∷◌, ◌++◌, Some, map, length, slice_get}
 use Rattle.std.specs.List.{list_any}
 use Rattle.std.specs.Option.{option_map_or, unwrap_or}
 use Rattle.def_map.specs.declared.collect.Collected.{Collected}
@@ -13,12 +13,10 @@ use Rattle.def_map.specs.declared.verdict.Verdict.{Verdict}
 use Rattle.def_map.specs.declared.verdict.Verdict.TheVariants.{Unknown, Nameless}
 use Rattle.def_map.specs.CrateView.{import_view}
 use Rattle.def_map.specs.Crates.{Crate, Binding, a_glob, a_name, underscore, nameless, PathImport}
-use Rattle.def_map.specs.Found.{verdict_of, says_wrong}
-use Rattle.def_map.specs.Laws.{IsWrong}
+use Rattle.def_map.specs.Found.{verdict_of}
 use Rattle.def_map.specs.Private.{private_imports}
 use Rattle.def_map.specs.Resolved.{ImportPlace, import_place, IsAnswer}
-use Rattle.def_map.specs.Parts.{CrateSources, allowing}
-use Rattle.def_map.specs.Tables.{CrateRow, imports, crate_from, crate_of}
+use Rattle.def_map.specs.Tables.{CrateRow, imports, crate_from}
 use Rattle.def_map.specs.Targets.{AreTargetsBy}
 use Rattle.def_map.specs.Views.{crate_manifest_view, crate_row_view}
 
@@ -58,23 +56,6 @@ module _ (t : code.ImportTable.ImportTable) (items : List ItemKey) (facts : List
 pub record AreAnswers {N : Type 0} (c : Crate N ItemKey) (told : List Told) : Type 0 where
   pub size : length told ≡ length c.imports
   pub at : (i : ℕ) (x : Told) → slice_get told i ≡ Some x → IsAnswer c i x.verdict x.is_private x.targets.items
-
--- ---- where lints are allowed
-
-abbrev pub is_told_wrong : Told → Bool
-is_told_wrong x = says_wrong x.verdict
-
--- the import of a number is told to be wrong
-abbrev pub is_wrong_at : List Told → ℕ → Bool
-is_wrong_at told i = option_map_or is_told_wrong (slice_get told i) false
-
--- what is told where lints are allowed is so, or these are not asked for, since nothing is wrong
-abbrev pub IsLaxTold : CrateSources → List Told → List Told → Type 0
-IsLaxTold s told lax = AreAnswers (crate_of (allowing s)) lax ⊎ (list_any is_told_wrong told ≡ false)
-
--- it is said which imports are wrong, and not where lints are allowed
-abbrev pub AreMarked : List Told → List ResolvedImport → Type 0
-AreMarked lax resolved = (i : ℕ) (r : ResolvedImport) → slice_get resolved i ≡ Some r → r.is_lint ≡ (says_wrong r.verdict && not (is_wrong_at lax i))
 
 -- ---- with the places of imports
 
