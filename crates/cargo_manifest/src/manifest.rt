@@ -100,8 +100,8 @@ fn declared_beside(
     ensures { let p = package_fields_view fields.now in ReadsAs declared_targets_view result (declared_form p
         (has_library_form p (option_map target_facts_view library.now) has_library_file) (table_view table.now)) }
 {
-    let has_library = has_library(fields, library, has_library_file);
-    declared_in(alloc, fields, has_library, table)
+    let is_beside = has_library(fields, library, has_library_file);
+    declared_in(alloc, fields, is_beside, table)
 }
 
 // What a manifest has beside `[package]`.

@@ -8,4 +8,4 @@ use Rattle.cargo_manifest.proofs.manifest.declared_beside.Goals as goal
 pub returns : goal.returns
 returns c =
     subst (λ b. ReadsAs declared_targets_view c.declared_in.result (declared_in (package_fields_view c.args.fields.now) b (table_view c.args.table.now)))
-    c.has_library.ensures c.declared_in.ensures
+    c.has_library-is_beside.ensures c.declared_in.ensures
