@@ -8,14 +8,10 @@
 A text is fit if the commands take little time over it, or if twice the text takes at most three times as long. That is counted in
 instructions, by valgrind where it is there, and else taken from the least of five times. `changed` compares a text with the same
 and one word more.
-
-Texts on one line, as generators write them, are also given to the commands whose answers have many places, and to `serve` and `lsp`: there
-twice the text takes at most 2.2 times as long.
 """
 import argparse
 import contextlib
 import itertools
-import json
 import os
 import random
 import re
@@ -72,12 +68,6 @@ TEXTS = [
     ('mod m {\n', '    }\n', '}\n'), ('mod m {\n', '    /// a\n'), ('{\n', ' }\n', '    }\n}\n'), (' impl X {\n  impl X {\n   impl X {\n', '  }\n }\n}\n'),
     ('mod m {', '$'), ('mod m {struct S;',), ('extern "C" {fn f() {',), ('extern { ;m! {',), ('trait T { fn f() {',), ('impl S { fn f() {',), ('const A: u8 = { fn f() {',),
 ]
-
-# Items on one line, and brackets that nothing closes: the text of a number. A text of each is so long, and half and a quarter so long.
-ON_ONE_LINE = 249_000
-MOST_ON_ONE_LINE = 2.2
-ITEM = '#[repr(C)] pub struct s{0:05} {{ pub a: u8 }} extern "C" {{ pub fn f{0:05}(); }} impl s{0:05} {{ fn g() {{ }} }} use b::c{0:05}; '
-OPENED = 'mod m{0:05} {{ '
 passed = failed = 0
 
 
@@ -104,49 +94,6 @@ def written(folder, parts, size):
         with open(paths[-1], 'wb') as file:
             file.write(data)
     return paths
-
-
-def line_of(part, size):
-    """A text of a size on one line."""
-    count = size // len(part.format(0))
-    return ''.join(part.format(number) for number in range(count))
-
-
-def framed(**message):
-    body = json.dumps({'jsonrpc': '2.0', **message}).encode()
-    return b'Content-Length: %d\r\n\r\n' % len(body) + body
-
-
-def asked_of_lsp(text, *requests):
-    """A conversation of `lsp` in which a text is opened, and then these requests are made about it."""
-    document = {'uri': 'file:///a.rs', 'languageId': 'rust', 'version': 1, 'text': text}
-    symbols = {'documentSymbol': {'hierarchicalDocumentSymbolSupport': True}}
-    start = framed(id=1, method='initialize', params={'capabilities': {'textDocument': symbols}})
-    asked = (framed(id=2, method=method, params={'textDocument': {'uri': document['uri']}}) for method in requests)
-    opened = framed(method='textDocument/didOpen', params={'textDocument': document})
-    return start + opened + b''.join(asked)
-
-
-def asked_of_serve(text, show):
-    """A conversation of `serve` in which a text is set, and then shown so."""
-    lines = [{'crates': [{'root': 0}], 'edits': [{'edit': 'set_text', 'file': 0, 'text': text}]}, {'shows': [{'units': 'utf-16', **show}]}]
-    return ''.join(json.dumps(line) + '\n' for line in lines).encode()
-
-
-# What is asked of a text on one line: its name, what is repeated, the words of a command, and what it reads.
-LINE_TRIES = [
-    ('outline --json', ITEM, ['outline', '--json', '-'], str.encode),
-    ('find --json', ITEM, ['find', '--json', '*', '-'], str.encode),
-    ('check', ITEM, ['check', '-'], str.encode),
-    ('check of open brackets', OPENED, ['check', '-'], str.encode),
-    ('serve: outline', ITEM, ['serve'], lambda text: asked_of_serve(text, {'show': 'outline', 'crate': 0, 'file': 0, 'members': True})),
-    ('serve: imports', ITEM, ['serve'], lambda text: asked_of_serve(text, {'show': 'import_places', 'crate': 0, 'file': 0})),
-    ('serve: find', ITEM, ['serve'], lambda text: asked_of_serve(text, {'show': 'find', 'name': '*', 'members': True})),
-    ('serve: problems', OPENED, ['serve'], lambda text: asked_of_serve(text, {'show': 'problems', 'file': 0})),
-    ('lsp: symbols', ITEM, ['lsp'], lambda text: asked_of_lsp(text, 'textDocument/documentSymbol')),
-    ('lsp: problems', OPENED, ['lsp'], asked_of_lsp),
-    ('lsp: repeated imports', 'use a::b; ', ['lsp'], asked_of_lsp),
-]
 
 
 class Program:
@@ -202,32 +149,6 @@ class Program:
         return growth <= MOST_GROWTH, name, f'{growth:.2f} times as long at {at} bytes as at half, {seconds:.2f} s at {size}'
 
 
-    def spent(self, words, data):
-        """The instructions of a run that reads this, or where valgrind is not here the least processor time of five."""
-        with tempfile.TemporaryFile(dir=self.folder) as file:
-            file.write(data)
-            if self.counts:
-                file.seek(0)
-                told = subprocess.run(['valgrind', '--tool=callgrind', '--callgrind-out-file=/dev/null', self.program, *words], timeout=900,
-                                      stdin=file, stdout=subprocess.DEVNULL, stderr=subprocess.PIPE, check=False).stderr
-                return int(re.search(rb'Collected : (\d+)', told)[1])
-            times = []
-            for _ in range(5):
-                file.seek(0)
-                run = subprocess.Popen([self.program, *words], stdin=file, stdout=subprocess.DEVNULL, stderr=subprocess.DEVNULL)
-                _, status, used = os.wait4(run.pid, 0)
-                run.returncode = os.waitstatus_to_exitcode(status)
-                times.append(used.ru_utime)
-            return min(times)
-
-    def judge_line(self, asked):
-        """Whether a command takes at most so many times as long over twice a text on one line, with what is told of it."""
-        name, part, words, read = asked
-        spent = [self.spent(words, read(line_of(part, ON_ONE_LINE // share))) for share in (4, 2, 1)]
-        growths = [more / less for less, more in zip(spent, spent[1:])]
-        return max(growths) <= MOST_ON_ONE_LINE, f'{name} of a text on one line', f'{growths[0]:.2f} and {growths[1]:.2f} times as long for twice the text'
-
-
 def all_texts(triples, chance):
     yield from (((pattern,), LARGE) for pattern in PATTERNS)
     for one, two in itertools.product(PATTERNS, repeat=2):
@@ -250,8 +171,6 @@ def main():
     with tempfile.TemporaryDirectory(dir=place) as folder, ThreadPoolExecutor(os.cpu_count()) as runs:
         program = Program(os.path.realpath(asked.program), folder)
         for is_right, name, got in runs.map(program.judge, ((command, parts) for parts in texts for command in COMMANDS)):
-            tell(is_right, name, got)
-        for is_right, name, got in runs.map(program.judge_line, LINE_TRIES):
             tell(is_right, name, got)
     print(f'growth: {passed} passed, {failed} failed')
     sys.exit(1 if failed or not passed else 0)
