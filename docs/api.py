@@ -11,7 +11,7 @@ from pathlib import Path
 TOP = Path(__file__).resolve().parent.parent
 CRATES = (
     "hir_input item_tree_attrs item_tree item_tree_db tree_walk decl_index "
-    "rust_items itemtree_commands def_map source_problems source_listing source_imports source_tags rust_edits text_session line_index globs list_forms itemtree_options hir_input_json item_tree_request message_stream lsp module_tree cargo_manifest"
+    "rust_items itemtree_commands def_map source_problems source_listing source_imports source_tags rust_edits text_session language_names line_index globs list_forms itemtree_options hir_input_json item_tree_request message_stream lsp module_tree cargo_manifest"
 ).split()
 ITEM = re.compile(r"pub (?:const fn|fn|struct|enum|trait|type|const|static) (\w+)")
 CLAUSE = re.compile(r"(requires|ensures|ghost)\b")

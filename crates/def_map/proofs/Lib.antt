@@ -2,12 +2,10 @@ mod LoopFacts
 mod FoundFacts
 mod TableRows
 mod Bounds
-mod Cfgs
 mod Closing
 mod Completing
 mod Counting
 mod Deciding
-mod Derives
 mod Examples
 mod Exports
 mod Gathering

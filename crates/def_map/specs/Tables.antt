@@ -23,11 +23,12 @@ use Rattle.def_map.specs.declared.kinds.PathStart.TheVariants as start
 use Rattle.def_map.specs.declared.kinds.Visibility.TheVariants as seen_by
 use Rattle.def_map.specs.declared.{push.Owner.Owner, push.Place.Place, rows.ItemKey.ItemKey}
 use Rattle.def_map.specs.declared.attributes.Marks.{Marks}
-use Rattle.def_map.specs.Attributes.{attr_marks, has_unknown}
+use Rattle.def_map.specs.Attributes.{attr_marks}
 use Rattle.def_map.specs.Crates.{Thing, a_module, an_item, a_scope, unseen, NameDeclaration, Binding, a_glob, a_name, underscore, nameless, PathImport, Veil, Crate, module_above, parent_of, narrower}
 use Rattle.def_map.specs.UseLeaves.{leaf_count}
 use Rattle.def_map.specs.Verdicts.{is_at_least}
-use Rattle.def_map.specs.Language.{builtin_crates, prelude_types, root_crates, tools}
+use Rattle.def_map.specs.Language.{builtin_crates, prelude_types, root_crates}
+use Rattle.language_names.specs.LanguageNames.{has_unknown, tools}
 
 -- what the manifest says: the features, and the names of other crates, if they are known
 pub record Manifest : Type 0 where

@@ -9,12 +9,13 @@ ghost use Rattle.def_map.specs.Tables as spec;
 ghost use Rattle.def_map.specs.Views.{crate_manifest_view, crate_row_view};
 
 use crate::kinds::{Namespace, PathStart, Visibility};
-use crate::language::{BUILTIN_CRATES, PRELUDE_TYPES, TOOLS};
+use crate::language::{BUILTIN_CRATES, PRELUDE_TYPES};
 use crate::push::Row;
 use crate::rows::{Bound, CrateRows, DeclaredName, MacroName, NamedImport, VeilRow};
 use crate::sources::Manifest;
 use hir_input::{Name, PathKind};
 use item_tree::{ImportAlias, ImportKind};
+use language_names::TOOLS;
 use std::alloc::{AllocError, Global};
 use tree_walk::Listed;
 

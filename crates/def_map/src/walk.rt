@@ -7,7 +7,7 @@ ghost use Rattle.def_map.specs.Inner.Walking.{plain_rows, plain_view, AddsRows};
 ghost use Rattle.def_map.specs.Tables as spec;
 ghost use Rattle.def_map.specs.Views.{sources_view};
 
-use crate::attributes::{Marks, has_unknown, marks_of};
+use crate::attributes::{Marks, marks_of};
 use crate::ctx::Ctx;
 use crate::kinds::Visibility;
 use crate::push::{
@@ -19,6 +19,7 @@ use hir_input::ast::PlainKind;
 use hir_input::{Attr, CfgExpr, FileAstId, Name};
 use item_tree::{ItemTree, ModItemId, ModItemKind, ModKind, RawVisibilityId};
 use item_tree_attrs::AttrsOrCfg;
+use language_names::has_unknown;
 use std::alloc::AllocError;
 use tree_walk::children;
 

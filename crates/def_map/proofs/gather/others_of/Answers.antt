@@ -1,6 +1,7 @@
 use Rattle.std.proofs.Common.{map, flat_map, ap}
 use Rattle.def_map.specs.CrateView.{other_view}
-use Rattle.def_map.specs.Language.{builtin_crates, prelude_types, tools}
+use Rattle.def_map.specs.Language.{builtin_crates, prelude_types}
+use Rattle.language_names.specs.LanguageNames.{tools}
 use Rattle.def_map.specs.Tables.{row_crates}
 use Rattle.def_map.specs.Views.{crate_row_view}
 use Rattle.def_map.proofs.Gathering.{gathered}

@@ -1,8 +1,8 @@
 use Rattle.std.proofs.Common.{◌≡◌, ℕ, ◌+◌, ◌≤◌, true, false, length, get_or, drop, sym, ap, ◌∙◌, arith}
-use Rattle.def_map.specs.Attributes as spec
-use Rattle.def_map.proofs.Derives.{part, no_part, word_ends, word_fails, word_goes_on, last_word}
-use Rattle.def_map.proofs.attributes.are_core_derives.Goals as goal
-use Rattle.def_map.proofs.attributes.are_core_derives.Goals.{then-is_between+else-not-is_core_derive, else-is_between}
+use Rattle.language_names.specs.LanguageNames as spec
+use Rattle.language_names.proofs.Derives.{part, no_part, word_ends, word_fails, word_goes_on, last_word}
+use Rattle.language_names.proofs.are_core_derives.Goals as goal
+use Rattle.language_names.proofs.are_core_derives.Goals.{then-is_between+else-not-is_core_derive, else-is_between}
 
 pub returns-then-not-is_core_derive : goal.returns-then-not-is_core_derive
 returns-then-not-is_core_derive c =

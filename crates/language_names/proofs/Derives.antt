@@ -1,7 +1,7 @@
 -- The words of a text between brackets, one byte after the other.
 use Rattle.std.proofs.Common.{◌≡◌, ℕ, ◌+◌, ◌-◌, ◌<◌, ◌≤◌, true, false, List, [], ◌∷◌, ◌++◌, length, get_or, take, drop, refl, ap, ◌∙◌, arith, length-drop}
 use Rattle.std.proofs.lemmas.List.{drop_all, drop_more, get_or-drop, take_more}
-use Rattle.def_map.specs.Attributes.{is_derive_gap, is_core_derive, are_core_derives}
+use Rattle.language_names.specs.LanguageNames.{is_derive_gap, is_core_derive, are_core_derives}
 
 -- the bytes from one place to another
 abbrev pub part : List ℕ → ℕ → ℕ → List ℕ

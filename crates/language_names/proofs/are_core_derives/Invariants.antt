@@ -1,7 +1,7 @@
 use Rattle.std.proofs.Common.{◌≡◌, ◌≤◌, [], drop}
-use Rattle.def_map.specs.Attributes as spec
-use Rattle.def_map.proofs.Derives.{part}
-use Rattle.def_map.proofs.attributes.are_core_derives.Given as goal
+use Rattle.language_names.specs.LanguageNames as spec
+use Rattle.language_names.proofs.Derives.{part}
+use Rattle.language_names.proofs.are_core_derives.Given as goal
 
 abbrev pub invariant-loop-at : goal.invariant-loop-at
 invariant-loop-at l = record {

@@ -4,7 +4,7 @@ use Rattle.std.specs.{List.list_any, Cmp.Lexicographic.pointwise}
 use Rattle.hir_input.specs.Name.{is_among}
 use Rattle.hir_input.specs.Cfg.{cfgs_from, cfg_view}
 use Rattle.hir_input.specs.declared.cfg.CfgExpr.{CfgExpr}
-use Rattle.def_map.specs.Attributes.{has_unknown, have_unknown}
+use Rattle.language_names.specs.LanguageNames.{has_unknown, have_unknown}
 
 pub unknown_members : (features : List (List ℕ)) (cs : List CfgExpr) → have_unknown features (cfgs_from (map cfg_view cs)) ≡ list_any (λ c. has_unknown features (cfg_view c)) cs
 unknown_members features [] = refl

@@ -1,0 +1,2 @@
+mod Cfgs
+mod Derives
