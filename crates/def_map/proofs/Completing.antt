@@ -1,4 +1,4 @@
--- What is derived of a completion lies over what is derived of the crate; so what is wrong stays wrong.
+-- What is derived of a completion lies over what is derived of the crate.
 use Rattle.std.proofs.Common.{◌≡◌, ◌<◌, ◌⊎◌, inl, inr, ⊎_elim, ℕ, suc, Bool, true, false, [], Option, Some, None, slice_get, if◌then◌else◌, refl, sym, ap, subst, ◌∙◌, length, Contains, arith}
 use Rattle.std.proofs.lemmas.Bool.{false≢true}
 use Rattle.std.proofs.lemmas.Option.{same_Some}
@@ -10,9 +10,9 @@ use Rattle.def_map.specs.declared.kinds.Visibility.{Visibility}
 use Rattle.def_map.specs.declared.kinds.Visibility.TheVariants.{Public, Module}
 use Rattle.def_map.specs.Crates.{Crate, Thing, a_module, an_item, a_scope, unseen, NameDeclaration, Binding, a_glob, a_name, underscore, nameless, PathImport, Veil, module_sees, narrower, Hides}
 use Rattle.def_map.specs.Facts.{Fact, names, stands, gives, is_glob_import, is_glob_binding, reading, IsOpen, IsImport, start_by, import_start, may_leave, IsElsewhere, an_other, any_other, a_macro, Covers, IsFree, Derives, declared, veiled, begins, elsewhere, leads, ends, gives_start, copies, imports, opens, exports, passes}
-use Rattle.def_map.specs.Verdicts.{IsSeen, HasNames, is_at_least, LeadsTo, to_given, to_glob, LeadsNowhere, IsTooWide}
-use Rattle.def_map.specs.Laws.{IsRising, Becomes, IsWhole, IsNew, IsUnderVeil, IsDeclarationKept, BindsUnderVeil, Completes}
-use Rattle.def_map.proofs.Order.{least_itself, module_public, above_of, old_above, same_above, same_sees, narrower_second, narrower_first, narrower_both, narrower_public, at_least_sees, at_least_public}
+use Rattle.def_map.specs.Verdicts.{is_at_least}
+use Rattle.def_map.specs.Laws.{Becomes, IsWhole, IsNew, IsUnderVeil, IsDeclarationKept, IsExported, BindsUnderVeil, Completes}
+use Rattle.def_map.proofs.Order.{same_above, same_sees, narrower_second, narrower_first, narrower_both, narrower_public, at_least_sees, at_least_public}
 use Rattle.def_map.proofs.Things.{same_module, not_module}
 use Rattle.def_map.proofs.Reading.{reading_inner, reading_last, reading_cases, speaks_of}
 
@@ -29,6 +29,13 @@ module _ {I : Type 0} where
   open_before (an_item x) t' e h = subst IsOpen e h
   open_before (a_scope x) t' e h = tt
   open_before unseen t' e h = tt
+
+is_of_macros : Namespace → Bool
+is_of_macros Macros = true
+is_of_macros ns = false
+
+types_not_macros : Types ≡ Macros → ⊥
+types_not_macros e = false≢true (ap is_of_macros e)
 
 module _ {N I : Type 0} (c d : Crate N I) (whole : IsWhole c) (all : Completes c d) where
   -- the modules of c that see the second see the first, and the first is for everybody if the second is
@@ -62,7 +69,7 @@ module _ {N I : Type 0} (c d : Crate N I) (whole : IsWhole c) (all : Completes c
   wider_trans : (a b e : Visibility) → IsWider a b → IsWider b e → IsWider a e
   wider_trans a b e one two = record { everybody = λ h. one.everybody (two.everybody h); others = λ k low s. one.others k low (two.others k low s) }
 
-  sees_same : (m : ℕ) (v : Visibility) → m < length c.parents → module_sees d.parents m v ≡ true → module_sees c.parents m v ≡ true
+  pub sees_same : (m : ℕ) (v : Visibility) → m < length c.parents → module_sees d.parents m v ≡ true → module_sees c.parents m v ≡ true
   sees_same m v low s = sym (same_sees c.parents d.parents all.rising all.modules m v low) ∙ s
 
   sees_more : (m : ℕ) (v : Visibility) → m < length c.parents → module_sees c.parents m v ≡ true → module_sees d.parents m v ≡ true
@@ -86,7 +93,7 @@ module _ {N I : Type 0} (c d : Crate N I) (whole : IsWhole c) (all : Completes c
 
   -- ---- the same import
 
-  same_import : (i : ℕ) (u w : PathImport N) → IsImport d i u → IsImport c i w → IsImport c i u
+  pub same_import : (i : ℕ) (u w : PathImport N) → IsImport d i u → IsImport c i w → IsImport c i u
   same_import i u w is old = subst (IsImport c i) (same_Some w u (sym (all.imports i w old) ∙ is)) old
 
   start_same : (i : ℕ) (u : PathImport N) → IsImport c i u → import_start d u ≡ import_start c u
@@ -199,10 +206,12 @@ module _ {N I : Type 0} (c d : Crate N I) (whole : IsWhole c) (all : Completes c
 
   -- ---- the rules
 
-  over_declared : (y : NameDeclaration N I) → Contains d.declarations y → Over (names y.parent y.namespace (Some y.name) y.thing y.visibility)
-  over_declared y has = by (all.declarations y has)
+  over_declared : (y : NameDeclaration N I) → (IsExported c d y → Over (names y.parent y.namespace (Some y.name) y.thing y.visibility)) → Contains d.declarations y
+      → Over (names y.parent y.namespace (Some y.name) y.thing y.visibility)
+  over_declared y exported has = by (all.declarations y has)
     where
-      by : IsDeclarationKept c d y ⊎ (IsNew c d y.parent ⊎ IsUnderVeil c d y.parent y.namespace (Some y.name) y.visibility) → Over (names y.parent y.namespace (Some y.name) y.thing y.visibility)
+      by : IsDeclarationKept c d y ⊎ (IsNew c d y.parent ⊎ (IsUnderVeil c d y.parent y.namespace (Some y.name) y.visibility ⊎ IsExported c d y))
+          → Over (names y.parent y.namespace (Some y.name) y.thing y.visibility)
       by (inl (x, old, parent, namespace, name, becomes, least)) = inr (
         Some y.name,
         x.thing,
@@ -214,7 +223,8 @@ module _ {N I : Type 0} (c d : Crate N I) (whole : IsWhole c) (all : Completes c
         kept_wider x.visibility y.visibility least,
       )
       by (inr (inl new)) = inl new
-      by (inr (inr under)) = veil_over y.parent y.namespace (Some y.name) y.thing y.visibility y.visibility under (record { everybody = λ e. e; others = λ k low s. s })
+      by (inr (inr (inl under))) = veil_over y.parent y.namespace (Some y.name) y.thing y.visibility y.visibility under (record { everybody = λ e. e; others = λ k low s. s })
+      by (inr (inr (inr out))) = exported out
 
   over_veiled : (y : Veil) → Contains d.veils y → Over (names y.parent y.namespace None unseen y.visibility)
   over_veiled y has = ⊎_elim (λ (new : IsNew c d y.parent). inl new)
@@ -305,91 +315,68 @@ module _ {N I : Type 0} (c d : Crate N I) (whole : IsWhole c) (all : Completes c
       by (inr (inl new)) = inl new
       by (inr (inr veil)) = veil_over u.parent Macros None unseen u.visibility u.visibility (glob_under u u.binding glob veil Macros) (record { everybody = λ e. e; others = λ k low s. s })
 
+  -- a macro that a macro call exports
+  over_exported : (y : NameDeclaration N I) (i : ℕ) (u : PathImport N) → IsImport d i u → is_glob_import u ≡ true → Over (stands i (length u.names) (a_module 0)) → u.parent ≡ y.parent
+      → y.namespace ≡ Macros → is_at_least d.parents u.visibility y.visibility ≡ true → IsFree c y.parent Macros (Some y.name) → Over (names y.parent y.namespace (Some y.name) y.thing y.visibility)
+  unfolding Place
+  over_exported y i u is glob stand parent space least free =
+      subst (λ s. Over (names y.parent s (Some y.name) y.thing y.visibility)) (sym space) (subst (λ m. Over (names m Macros (Some y.name) y.thing y.visibility)) parent (by (all.more_imports i u is)))
+    where
+      clear : IsFree c u.parent Macros (Some y.name)
+      clear = subst (λ m. IsFree c m Macros (Some y.name)) (sym parent) free
+
+      wide : IsWider u.visibility y.visibility
+      wide = kept_wider u.visibility y.visibility least
+
+      at : IsImport c i u → Place i (length u.names) 0 → Over (names u.parent Macros (Some y.name) y.thing y.visibility)
+      at old (inl here) = inr (None, unseen, u.visibility, exports u old glob here.0, as_veil clear, wide)
+      at old (inr there) = inr (None, unseen, u.visibility, opens u Macros old glob there.1 there.2, as_veil clear, wide)
+
+      by : IsImport c i u ⊎ (IsNew c d u.parent ⊎ BindsUnderVeil c d u u.binding) → Over (names u.parent Macros (Some y.name) y.thing y.visibility)
+      by (inl old) = let s = stand u old in at old (place_of i (length u.names) 0 s.0 s.1 s.2)
+      by (inr (inl new)) = inl new
+      by (inr (inr veil)) = veil_over u.parent Macros (Some y.name) y.thing y.visibility u.visibility (under_free u.parent Macros (Some y.name) u.visibility (glob_under u u.binding glob veil Macros) clear) wide
+
   over_passes : (i k : ℕ) (n : N) (t' : Thing I) (f : Fact N I) (u : PathImport N) (ns : Namespace) → IsImport d i u → Over (stands i k t') → IsOpen t' → slice_get u.names k ≡ Some n
       → reading i u k ns unseen Public ≡ Some f → Over f
   over_passes i k n t' f u ns is stand open' has says = read_over i u k ns unseen Public f is says (λ old.
       let s = stand u old in passed i u k n ns s.0 unseen Public f old s.1 (open_before s.0 t' s.2 open') has says)
 
+  -- a fact of these namespaces
+  abbrev Within : (Namespace → Type 0) → Fact N I → Type 0
+  Within P (names m ns name t v) = P ns
+  Within P (stands i k t) = Unit {0}
+  Within P (gives i ns t v) = P ns
+
+  module _ (P : Namespace → Type 0) (types : P Types) (exported : (y : NameDeclaration N I) → P y.namespace → IsExported c d y → Over (names y.parent y.namespace (Some y.name) y.thing y.visibility)) where
+    over_within : (f : Fact N I) → Derives d f → Within P f → Over f
+    over_within f (declared y has) w = over_declared y (exported y w) has
+    over_within f (veiled y has) w = over_veiled y has
+    over_within f (begins {i = i} {m = m} u is start) w = over_begins i m u is start
+    over_within f (elsewhere {ns = ns} {n = n} {t = t} {v = v} {f = g} i u is leave first other free says) w = over_elsewhere i u n ns t v g is leave first other free says
+    over_within f (leads {i = i} {k = k} {m = m} {n = n} {name = name} {t = t} {v = v} u is stand has inner named covers seen) w =
+        read_name i u k m n Types name t v (stands i (suc k) t) is (over_within _ stand tt) has (over_within _ named types) covers seen (reading_inner i u k t v inner)
+    over_within f (ends {i = i} {k = k} {m = m} {ns = ns} {n = n} {name = name} {t = t} {v = v} u is stand has last wanted named covers seen) w =
+        read_name i u k m n ns name t v (gives i ns t v) is (over_within _ stand tt) has (over_within _ named w) covers seen (reading_last i u k ns t v last wanted)
+    over_within f (gives_start {i = i} {t = t} u is glob none stand) w = over_start i u t is glob none (over_within _ stand tt)
+    over_within f (copies {i = i} {m = m} {ns = ns} {name = name} {t = t} {v = v} u is glob stand named seen free) w =
+        over_copies i m ns name t v u is glob (over_within _ stand tt) (over_within _ named w) seen free
+    over_within f (imports {i = i} {ns = ns} {n = n} {t = t} {v = v} u is binds given) w = over_imports i ns n t v u is binds (over_within _ given w)
+    over_within f (opens {i = i} {t = t} u ns is glob stand open') w = over_opens i ns t u is glob (over_within _ stand tt) open'
+    over_within f (exports {i = i} u is glob stand) w = over_exports i u is glob (over_within _ stand tt)
+    over_within f (passes {i = i} {k = k} {n = n} {t = t} {f = g} u ns is stand open' has says) w = over_passes i k n t g u ns is (over_within _ stand tt) open' has says
+
+  -- where a path stands does not hang on macros
+  over_stands : (i k : ℕ) (t : Thing I) → Derives d (stands i k t) → Over (stands i k t)
+  over_stands i k t stand = over_within (λ ns. ns ≡ Types) refl (λ y types out. absurd (types_not_macros (sym types ∙ out.6))) (stands i k t) stand tt
+
+  exported_over : (y : NameDeclaration N I) → IsExported c d y → Over (names y.parent y.namespace (Some y.name) y.thing y.visibility)
+  exported_over y (i, u, is, glob, stand, parent, space, least, free) = over_exported y i u is glob (over_stands i (length u.names) (a_module 0) stand) parent space least free
+
   pub over : (f : Fact N I) → Derives d f → Over f
-  over f (declared y has) = over_declared y has
-  over f (veiled y has) = over_veiled y has
-  over f (begins {i = i} {m = m} u is start) = over_begins i m u is start
-  over f (elsewhere {ns = ns} {n = n} {t = t} {v = v} {f = g} i u is leave first other free says) = over_elsewhere i u n ns t v g is leave first other free says
-  over f (leads {i = i} {k = k} {m = m} {n = n} {name = name} {t = t} {v = v} u is stand has inner named covers seen) =
-      read_name i u k m n Types name t v (stands i (suc k) t) is (over _ stand) has (over _ named) covers seen (reading_inner i u k t v inner)
-  over f (ends {i = i} {k = k} {m = m} {ns = ns} {n = n} {name = name} {t = t} {v = v} u is stand has last wanted named covers seen) =
-      read_name i u k m n ns name t v (gives i ns t v) is (over _ stand) has (over _ named) covers seen (reading_last i u k ns t v last wanted)
-  over f (gives_start {i = i} {t = t} u is glob none stand) = over_start i u t is glob none (over _ stand)
-  over f (copies {i = i} {m = m} {ns = ns} {name = name} {t = t} {v = v} u is glob stand named seen free) = over_copies i m ns name t v u is glob (over _ stand) (over _ named) seen free
-  over f (imports {i = i} {ns = ns} {n = n} {t = t} {v = v} u is binds given) = over_imports i ns n t v u is binds (over _ given)
-  over f (opens {i = i} {t = t} u ns is glob stand open') = over_opens i ns t u is glob (over _ stand) open'
-  over f (exports {i = i} u is glob stand) = over_exports i u is glob (over _ stand)
-  over f (passes {i = i} {k = k} {n = n} {t = t} {f = g} u ns is stand open' has says) = over_passes i k n t g u ns is (over _ stand) open' has says
-
-  -- ---- the laws
-
-  seen_stays : (t t' : Thing I) → Becomes t t' → IsSeen t → IsSeen t'
-  seen_stays (a_module m) t' e h = subst IsSeen (sym e) h
-  seen_stays (an_item x) t' e h = subst IsSeen (sym e) h
-  seen_stays (a_scope x) t' (inl e) h = subst IsSeen (sym e) h
-  seen_stays (a_scope x) t' (inr e) h = subst IsSeen (sym e.1) tt
-  seen_stays unseen t' e h = absurd h
-
-  named_before : (t t' : Thing I) → Becomes t t' → HasNames t' → HasNames t
-  named_before (a_module m) t' e h = tt
-  named_before (an_item x) t' e h = subst HasNames e h
-  named_before (a_scope x) t' e h = tt
-  named_before unseen t' e h = tt
-
-  -- what d's import leads to lies over what that of c does, if it is one of c
-  leads_before : (i : ℕ) (w : PathImport N) → IsImport c i w → (t : Thing I) → LeadsTo d i t → (before : Thing I) × LeadsTo c i before
-  leads_before i w old t (to_given {ns = ns} {t = x} {v = v} given) = let g = over (gives i ns x v) given w old in (g.0, to_given g.2)
-  leads_before i w old t (to_glob {t = x} u is glob stand has) =
-      let same = same_import i u w is old in
-      let s = over (stands i (length u.names) x) stand u same in
-      (s.0, to_glob u same glob s.1 (named_before s.0 x s.2 has))
-
-  pub stays_wrong : (i : ℕ) → LeadsNowhere c i → LeadsNowhere d i
-  stays_wrong i (u, is, fails) = (u, all.imports i u is, λ t leads'. let b = leads_before i u is t leads' in fails b.0 b.1)
-
-  least_before : (i : ℕ) (u : PathImport N) (v v' : Visibility) → IsImport c i u → IsWider v v' → is_at_least d.parents v' u.visibility ≡ true
-      → is_at_least c.parents v u.visibility ≡ true
-  least_before i u v v' is wider least = by v v' u.visibility (whole.imports i u is).1 wider least
+  over f it = over_within (λ ns. Unit {0}) tt (λ y any out. exported_over y out) f it (any f)
     where
-      by : (v v' w : Visibility) → module_sees c.parents u.parent w ≡ true → IsWider v v' → is_at_least d.parents v' w ≡ true → is_at_least c.parents v w ≡ true
-      by Public v' w own wider least = refl
-      by (Module a) Public w own wider least = absurd (module_public a (wider.everybody refl))
-      by (Module a) (Module b) Public own wider least = least
-      by (Module a) (Module b) (Module x) own wider least =
-          let up = above_of c.parents u.parent u.parent x own in
-          let low = old_above c.parents c.parents whole.rising (λ k below. refl) up.0 u.parent x (whole.imports i u is).0 up.1 in
-          sees_same x (Module a) low (wider.others x low least)
-
-  pub stays_too_wide : (i : ℕ) → IsTooWide c i → IsTooWide d i
-  stays_too_wide i (u, is, glob, wide) = (
-    u,
-    all.imports i u is,
-    glob,
-    λ ns t v given.
-        let g = over (gives i ns t v) given u is in
-        let before = wide ns g.0 g.1 g.2 in
-        (seen_stays g.0 t g.3 before.0, by (is_at_least d.parents v u.visibility) refl before.1 (λ h. least_before i u g.1 v is g.4 h)),
-  )
-    where
-      by : {x y : Bool} (b : Bool) → x ≡ b → y ≡ false → (x ≡ true → y ≡ true) → x ≡ false
-      by true e less h = absurd (false≢true (sym less ∙ h e))
-      by false e less h = e
-
--- a crate completes itself
-pub completes_itself : {N I : Type 0} (c : Crate N I) → IsRising c.parents → Completes c c
-completes_itself c rising = record {
-  modules = λ m low. refl;
-  rising = rising;
-  edition = refl;
-  imports = λ i u is. is;
-  sure = λ m ns n h. h;
-  declarations = λ y has. inl (y, has, refl, refl, refl, becomes_itself y.thing, least_itself c.parents y.visibility);
-  veils = λ x has. inr (x, has, refl, refl, least_itself c.parents x.visibility, tt);
-  more_imports = λ i u is. inl is;
-  others = λ n t other. (t, other, becomes_itself t);
-}
+      any : (f : Fact N I) → Within (λ ns. Unit {0}) f
+      any (names m ns name t v) = tt
+      any (stands i k t) = tt
+      any (gives i ns t v) = tt

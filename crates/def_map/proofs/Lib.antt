@@ -30,6 +30,7 @@ mod Reading
 mod Refusing
 mod RootVeils
 mod SeedLaws
+mod Staying
 mod SureNames
 mod Telling
 mod Things

@@ -1,4 +1,4 @@
-use Rattle.def_map.proofs.Completing.{completes_itself}
+use Rattle.def_map.proofs.Staying.{completes_itself}
 use Rattle.def_map.proofs.laws.completions.Goals as goal
 
 pub returns : goal.returns

@@ -1,4 +1,4 @@
-use Rattle.def_map.proofs.Completing.{stays_wrong, stays_too_wide}
+use Rattle.def_map.proofs.Staying.{stays_wrong, stays_too_wide}
 use Rattle.def_map.proofs.laws.stays_wrong.Goals as goal
 
 pub returns-clause-fails : goal.returns-clause-fails
