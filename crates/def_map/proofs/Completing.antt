@@ -30,7 +30,7 @@ module _ {I : Type 0} where
   open_before (a_scope x) t' e h = tt
   open_before unseen t' e h = tt
 
-is_of_macros : Namespace → Bool
+abbrev is_of_macros : Namespace → Bool
 is_of_macros Macros = true
 is_of_macros ns = false
 

@@ -6,5 +6,4 @@ mod indexes;
 mod no_memory;
 mod options;
 mod refusals;
-mod removals;
 pub(crate) mod table;

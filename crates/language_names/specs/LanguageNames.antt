@@ -17,7 +17,7 @@ language_attributes =
     ∷ codes "instruction_set" ∷ codes "lang" ∷ codes "link" ∷ codes "link_name" ∷ codes "link_ordinal" ∷ codes "link_section" ∷ codes "linkage"
     ∷ codes "macro_export" ∷ codes "macro_use" ∷ codes "marker" ∷ codes "may_dangle" ∷ codes "must_use" ∷ codes "naked" ∷ codes "needs_allocator"
     ∷ codes "needs_panic_runtime" ∷ codes "no_builtins" ∷ codes "no_core" ∷ codes "no_implicit_prelude" ∷ codes "no_link" ∷ codes "no_main" ∷ codes "no_mangle"
-    ∷ codes "no_std" ∷ codes "non_exhaustive" ∷ codes "optimize" ∷ codes "panic_handler" ∷ codes "panic_runtime" ∷ codes "path" ∷ codes "prelude_import"
+    ∷ codes "no_std" ∷ codes "non_exhaustive" ∷ codes "optimize" ∷ codes "panic_handler" ∷ codes "panic_runtime" ∷ codes "path"
     ∷ codes "profiler_runtime" ∷ codes "recursion_limit" ∷ codes "repr"
     ∷ codes "should_panic" ∷ codes "stable" ∷ codes "target_feature" ∷ codes "test" ∷ codes "test_case" ∷ codes "thread_local"
     ∷ codes "track_caller" ∷ codes "type_length_limit" ∷ codes "unstable" ∷ codes "used" ∷ codes "warn" ∷ codes "windows_subsystem" ∷ []
@@ -49,6 +49,10 @@ compiler_cfgs =
 -- a name that begins with `rustc_`
 abbrev pub is_of_rustc : List ℕ → Bool
 is_of_rustc name = starts_with nat_eq name (codes "rustc_")
+
+-- a name that is an attribute of the language's if it stands alone
+abbrev pub is_language_name : List ℕ → Bool
+is_language_name name = is_among language_attributes name || is_of_rustc name
 
 -- the path of an attribute that is the language's
 abbrev pub is_language_by : PathKind → List (List ℕ) → Bool

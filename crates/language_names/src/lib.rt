@@ -6,9 +6,9 @@ ghost use Rattle.std.specs.{List.list_any, Cmp.Lexicographic.pointwise};
 ghost use Rattle.hir_input.specs.{Cfg.atom_view, Cfg.cfg_view, Name.is_among};
 ghost use Rattle.language_names.specs.LanguageNames as spec;
 
-use hir_input::{Attr, CfgAtom, CfgExpr, PathKind};
+use hir_input::{Attr, CfgAtom, CfgExpr, ModPath, PathKind};
 
-const LANGUAGE_ATTRIBUTES: [&str; 71] = [
+const LANGUAGE_ATTRIBUTES: [&str; 70] = [
     "allow",
     "allow_internal_unsafe",
     "allow_internal_unstable",
@@ -64,7 +64,6 @@ const LANGUAGE_ATTRIBUTES: [&str; 71] = [
     "panic_handler",
     "panic_runtime",
     "path",
-    "prelude_import",
     "profiler_runtime",
     "recursion_limit",
     "repr",
@@ -147,7 +146,8 @@ fn is_language_attribute(name: &str) -> bool
     is_word(&LANGUAGE_ATTRIBUTES, name.as_bytes())
 }
 
-fn is_tool(name: &str) -> bool
+/// Whether a name is that of a tool.
+pub fn is_tool(name: &str) -> bool
     ensures { result ≡ is_among spec.tools name.now }
 {
     is_word(&TOOLS, name.as_bytes())
@@ -173,20 +173,34 @@ fn is_of_rustc(name: &str) -> bool
     name.as_bytes().starts_with(b"rustc_")
 }
 
-/// Whether an attribute is the language's: what is not may rewrite its item.
-pub fn is_language(attr: &Attr) -> bool
-    ensures { result ≡ spec.is_language attr.now }
+/// Whether a name that stands alone is an attribute of the language's.
+pub fn is_language_name(name: &str) -> bool
+    ensures { result ≡ spec.is_language_name name.now }
 {
-    let PathKind::Plain = attr.path.kind() else {
+    is_language_attribute(name) || is_of_rustc(name)
+}
+
+/// Whether the attribute of a path is the language's: what is not may rewrite its item.
+pub fn is_language_path(path: &ModPath) -> bool
+    ensures { result ≡ spec.is_language_by path.now.kind path.now.names }
+{
+    let PathKind::Plain = path.kind() else {
         return false;
     };
-    let Some((name, more)) = attr.path.segments().split_first() else {
+    let Some((name, more)) = path.segments().split_first() else {
         return false;
     };
     if more.is_empty() {
         return is_language_attribute(name.text()) || is_of_rustc(name.text());
     }
     is_tool(name.text())
+}
+
+/// The same of an attribute.
+pub fn is_language(attr: &Attr) -> bool
+    ensures { result ≡ spec.is_language attr.now }
+{
+    is_language_path(&attr.path)
 }
 
 // ---- derives

@@ -6,7 +6,7 @@ use item_tree::CrateData;
 use item_tree_db::{Edit, Place, Sources, TreeId, file_item_tree};
 use std::alloc::{AllocError, Global};
 
-pub fn count_changes(sources: &Sources) -> usize {
+fn count_changes(sources: &Sources) -> usize {
     let mut count = 0usize;
     for _ in sources.changed_since(0) {
         count = count.saturating_add(1);
