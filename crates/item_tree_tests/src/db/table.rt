@@ -2,6 +2,13 @@
 //!
 //! A function that makes or drops a table, a syntax, an edit or a refusal is proved slowly, and the more so the more it
 //! does meanwhile. So each of these is done once here, in a function of its own, and a table is handed out in a box.
+ghost use Rattle.std.specs.Prelude.{map, IfOk};
+ghost use Rattle.std.specs.List.{AllByRecursion};
+ghost use Rattle.item_tree_db.specs.State.{State};
+ghost use Rattle.item_tree_db.specs.Edits.{edit_view};
+ghost use Rattle.item_tree_db.specs.Refusal.{NamesKnown};
+ghost use Rattle.decl_index.specs.Entries.{IndexView, IsBehind};
+
 use crate::db::example::new_table;
 use crate::samples::attributes::{condition, options, word};
 use crate::samples::blocks::block;
