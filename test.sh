@@ -91,7 +91,6 @@ try_programs() {
     part 'crates' tests/crates.py "$itemtree"
     part 'imports' tests/imports.py "$itemtree"
     part 'random crates' tests/random_crates.py "$itemtree"
-    part 'random packages' tests/packages.py "$itemtree" --count 40
     part 'the manual page' docs/man/make.py --check "$itemtree" docs/man
     part 'edits that a dependent sees' tests/changed.py "$itemtree"
     part 'recipes for git' tests/recipes.py "$itemtree"
@@ -124,7 +123,7 @@ if [ -n "$is_quick" ]; then
     mapfile -t tests < <(find "${tests[@]}" -executable 2> /dev/null)
 fi
 
-planned=$((is_quick ? 30 : 34))
+planned=$((is_quick ? 29 : 33))
 part 'the closed words' tests/closed_words.sh
 part 'words with one meaning' tests/one_meaning.py
 part 'the length of documents' tests/sentences.py

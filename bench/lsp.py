@@ -4,7 +4,7 @@
     lsp.py PROGRAM FOLDER [--times N]
 
 Of the folder's Rust files the largest is opened, and the one that is nearest to 4 kB. Each line of what is printed is the server's
-processor time for one message, from /proc, the least of N times (20): an edit in a body with the problems behind it, and its symbols.
+processor time for one message, from /proc, the least of N times (20): an edit in a body with the problems behind it, and each request.
 The growth of an edit is that with 10 and with 1,000 open texts, and in a line of a megabyte.
 """
 import argparse
@@ -97,8 +97,9 @@ def measure_text(program, times, path, text):
     server.ask('textDocument/documentSymbol', **document)
     print(f'{os.path.basename(path)} of {size} bytes: opened, with its problems and symbols, in {server.milliseconds() - first:.2f} ms')
     print(f'  an edit in a body, with its problems  {least(server, times, lambda: server.type(uri, place, "x")):8.2f} ms')
-    spent = least(server, times, lambda: server.ask('textDocument/documentSymbol', **document))
-    print(f'  documentSymbol                        {spent:8.2f} ms')
+    for method, params in [('documentSymbol', {}), ('foldingRange', {}), ('selectionRange', {'positions': [place]}), ('documentHighlight', {'position': place})]:
+        spent = least(server, times, lambda: server.ask(f'textDocument/{method}', **document, **params))
+        print(f'  {method:37} {spent:8.2f} ms')
     print(f'  memory                                {server.kilobytes()} kB')
     server.end()
 

@@ -1,13 +1,11 @@
 #!/usr/bin/env python3
 """Small crates, each with the modules that it has by the Reference: crates.py PROGRAM [RUSTC]
 
-With a rustc, each crate is compared with that too: the files that it reads are those of the modules, and it refuses a
-crate exactly where a module has no file; with a cargo beside it, each of the PACKAGES too: cargo accepts all of them.
-Prints `crates: N passed, M failed`."""
+With a rustc, each crate is held against that too: the files that it reads are those of the modules, and it refuses a
+crate exactly where a module has no file. Prints `crates: N passed, M failed`."""
 import json
 import os
 import re
-import shutil
 import subprocess
 import sys
 import tempfile
@@ -82,14 +80,8 @@ crate("an inner path of an inline module", {"lib.rs": 'mod a { #![path = "x"] mo
       "crate lib.rs", "crate::a lib.rs", "crate::a::b x/b.rs")
 crate("the first of two paths", {"lib.rs": '#[path = "b.rs"] #[path = "c.rs"] mod a;', "b.rs": "", "c.rs": ""}, "crate lib.rs", "crate::a b.rs")
 crate("a path with dots", {"src/lib.rs": '#[path = "../x/./b.rs"] mod a;', "x/b.rs": "mod c;", "x/c.rs": ""},
-      "crate src/lib.rs", "crate::a src/../x/b.rs", "crate::a::c src/../x/c.rs", root="src/lib.rs")
-crate("a path above the root", {"src/lib.rs": '#[path = "../b.rs"] mod a;', "b.rs": ""}, "crate src/lib.rs", "crate::a src/../b.rs", root="src/lib.rs")
-crate("a path above a folder that is not there", {"src/lib.rs": 'mod i { #[path = "../y.rs"] mod y; }', "src/y.rs": ""},
-      "crate src/lib.rs", "crate::i src/lib.rs", none=["crate::i::y has no file: src/i/../y.rs"], root="src/lib.rs")
-crate("above one that is there", {"src/lib.rs": 'mod i { #[path = "../y.rs"] mod y; }', "src/y.rs": "", "src/i/x.rs": ""},
-      "crate src/lib.rs", "crate::i src/lib.rs", "crate::i::y src/i/../y.rs", root="src/lib.rs")
-crate("a path that ends with a slash", {"lib.rs": '#[path = "b.rs/"] mod a;', "b.rs": ""}, "crate lib.rs", none=["crate::a has no file: b.rs/"])
-crate("the null device", {"lib.rs": '#[path = "/dev/null"] mod a; #[path = "//dev/./null"] mod b;'}, "crate lib.rs", "crate::a /dev/null", "crate::b /dev/null")
+      "crate src/lib.rs", "crate::a x/b.rs", "crate::a::c x/c.rs", root="src/lib.rs")
+crate("a path above the root", {"src/lib.rs": '#[path = "../b.rs"] mod a;', "b.rs": ""}, "crate src/lib.rs", "crate::a b.rs", root="src/lib.rs")
 crate("a path in a raw string", {"lib.rs": '#[path = r"b.rs"] mod a;', "b.rs": ""}, "crate lib.rs", "crate::a b.rs")
 crate("a path without .rs", {"lib.rs": '#[path = "b.txt"] mod a;', "b.txt": "mod c;", "c.rs": ""},
       "crate lib.rs", "crate::a b.txt", "crate::a::c c.rs")
@@ -106,8 +98,6 @@ crate("an empty path", {"lib.rs": '#[path = ""] mod a;', "a.rs": ""}, "crate lib
 crate("no file in a file", {"lib.rs": "mod a;", "a.rs": "mod b;", "b.rs": ""}, "crate lib.rs", "crate::a a.rs",
       none=["crate::a::b has no file: a/b.rs, a/b/mod.rs"])
 crate("the file itself", {"lib.rs": '#[path = "lib.rs"] mod a;'}, "crate lib.rs", none=["crate::a is a file that it stands in: lib.rs"])
-crate("the file itself, from a folder", {"lib.rs": '#[path = "./x/../x/a.rs"] mod a;', "x/a.rs": '#[path = "./a.rs"] mod b; #[path = "y/../a.rs"] mod c;'},
-      "crate lib.rs", "crate::a x/../x/a.rs", none=["crate::a::b is a file that it stands in: x/../x/a.rs", "crate::a::c has no file: x/../x/y/../a.rs"])
 crate("a circle of two", {"lib.rs": "mod a;", "a.rs": '#[path = "b.rs"] mod b;', "b.rs": '#[path = "a.rs"] mod a;'},
       "crate lib.rs", "crate::a a.rs", "crate::a::b b.rs", none=["crate::a::b::a is a file that it stands in: a.rs"])
 crate("a folder in place of a file", {"lib.rs": "mod a;", "a.rs/x.rs": ""}, "crate lib.rs", none=["crate::a has no file: a.rs, a/mod.rs"])
@@ -168,19 +158,13 @@ def rustc_of(case, folder):
         return ["rustc refuses it: " + ran.stderr]
     with open(f"{folder}/out/x.d") as it:
         read = {os.path.normpath(name.rstrip(":")) for name in it.read().split("\n") if name.endswith(".rs:") or name.endswith(".txt:")}
-    ours = {os.path.normpath(line.rsplit(" ", 1)[1]) for line in modules} - {"/dev/null"}
+    ours = {line.rsplit(" ", 1)[1] for line in modules}
     return [] if ours <= read else [f"rustc reads {sorted(read)}"]
 
 
 def run(folder, *words):
     ran = subprocess.run([PROGRAM, *words], cwd=folder, capture_output=True, text=True, timeout=120)
     return ran.stdout, ran.stderr, ran.returncode
-
-
-def rustc_says(folder, root):
-    """The status of rustc, if there is one."""
-    words = ["--edition", "2021", "--crate-type", "lib", "--emit", "metadata", "--crate-name", "x", "-o", f"{folder}/x.rmeta", root]
-    return subprocess.run([RUSTC, *words], cwd=folder, capture_output=True).returncode if RUSTC else 0
 
 
 def write(folder, files):
@@ -202,28 +186,13 @@ def links(folder):
     yield out == ("lib.rs:1:1: crate lib.rs\nlib.rs:1:5: crate::a a.rs\na.rs:1:5: crate::a::d a/d.rs\n"
                   "lib.rs:1:12: crate::b b/mod.rs\nb/mod.rs:1:5: crate::b::e b/e.rs\n"), "links lead to files", out
     yield err == "lib.rs:1:19: crate::c has no file: c.rs, c/mod.rs\n" and status == 1, "a link to itself is no file", err
-    for name, link in (("hard", os.link), ("soft", lambda of, at: os.symlink("../a.rs", at))):
-        top = f"{folder}/{name}"
-        write(top, {"lib.rs": "mod a;", "a.rs": "#[cfg(unix)] mod b;", "a/x.rs": "", "a/b/b.rs": ""})
-        link(f"{top}/a.rs", f"{top}/a/b.rs")
-        out, err, status = run(top, "modules", "lib.rs")
-        yield out == ("lib.rs:1:1: crate lib.rs\nlib.rs:1:5: crate::a a.rs\na.rs:1:18: crate::a::b a/b.rs\n"
-                      "a/b.rs:1:18: crate::a::b::b a/b/b.rs\n") and status == 0, f"a {name} link of a file in it is no circle", out + err
-        yield rustc_says(top, "lib.rs") == 0, f"a {name} link by rustc", name
-    top = f"{folder}/dots"
-    write(top, {"src/lib.rs": '#[path = "linked/../y.rs"] mod y;', "x/z/a.rs": "", "x/y.rs": "", "src/y.rs": "mod no;"})
-    os.symlink("../x/z", f"{top}/src/linked")
-    out, err, status = run(top, "modules", "src/lib.rs")
-    yield out.endswith("crate::y src/linked/../y.rs\n") and status == 0, "above a link to a folder", out + err
-    yield rustc_says(top, "src/lib.rs") == 0, "above a link by rustc", top
 
 
 def no_files(folder):
     write(folder, {"lib.rs": 'mod a; #[path = "%s"] mod b; #[path = "/nowhere/c.rs"] mod c; #[path = "d\\0.rs"] mod d;' % ("x" * 100_000)})
     os.mkfifo(f"{folder}/a.rs")
     out, err, status = run(folder, "modules", "lib.rs")
-    yield err.count(" has no file: ") == 3, "an endless path, an absolute one and one with a zero", err[:300]
-    yield "a.rs: neither a regular file nor /dev/null" in err and status == 2, "a pipe", err[-300:]
+    yield err.count(" has no file: ") == 4 and status == 1, "a pipe, an endless path, an absolute one and one with a zero", err[:300]
 
 
 def unread(folder):
@@ -236,10 +205,12 @@ def unread(folder):
 
 
 def deep(folder):
-    write(folder, {f"m{k}.rs": f'#[path = "m{k + 1}.rs"] mod m;' for k in range(160)} | {"m160.rs": ""})
-    out, err, status = run(folder, "modules", "m0.rs")
-    yield len(out.splitlines()) == 161 and (err, status) == ("", 0), "160 deep", out[-200:] + err
-    yield rustc_says(folder, "m0.rs") == 0, "160 deep by rustc", folder
+    for depth in (128, 129):
+        top = f"{folder}/{depth}"
+        write(top, {f"m{k}.rs": f'#[path = "m{k + 1}.rs"] mod m;' for k in range(depth)} | {f"m{depth}.rs": ""})
+        out, err, status = run(top, "modules", "m0.rs")
+        yield len(out.splitlines()) == min(depth, 128) + 1, f"{depth} deep", out[-200:]
+        yield ("stands in too many files" in err) == (depth > 128), f"{depth} deep", err
 
 
 def packages(folder):
@@ -281,8 +252,7 @@ MANIFESTS = [
     ("a binary that is not there", NAMED + '[[bin]]\nname = "b"\n', ["src/lib.rs"], [], "the crate b has no root file"),
     ("no binaries by their places", NAMED + 'autobins = false\n[[bin]]\nname = "b"\n', ["src/bin/b.rs", "src/bin/c.rs"], [], ["src/bin/b.rs"]),
     ("no crate", NAMED, ["x.rs"], [], "no crate of this package has a root file"),
-    ("a workspace whose member is not there", '[workspace]\nmembers = ["m"]\n', ["m/src/lib.rs"], [], "m/Cargo.toml: No such file or directory (os error 2)"),
-    ("a workspace of nothing", "[workspace]\n", ["m/src/lib.rs"], [], "no crate of this package has a root file"),
+    ("a workspace alone", '[workspace]\nmembers = ["m"]\n', ["m/src/lib.rs"], [], ""),
     ("an unknown edition", NAMED + 'edition = "2016"\n', ["src/lib.rs"], [], ""),
     ("a feature that enables itself", NAMED + '[features]\na = ["b"]\nb = ["a"]\n', ["src/lib.rs", "src/a.rs", "src/b.rs"], ["--features", "a"],
      ["src/lib.rs", "src/a.rs", "src/b.rs"]),
@@ -308,70 +278,7 @@ def manifests(folder):
         if isinstance(wanted, list):
             yield listed == wanted and status == 0, what, (listed, err)
         else:
-            yield out == "" and err.startswith("itemtree: ") and "Cargo.toml: " in err and err.endswith(wanted + "\n") and status == 2, what, err
-
-
-# Packages as cargo has them: what one shows, its files, its folder, and the root files of its crates.
-LIB, BIN, WRONG = "pub fn f() {}\n", "fn main() {}\n", "use crate::gone::X;\nfn main() {}\n"
-OLD = "mod a { pub struct X; }\nmod b { use a::X; pub type Y = X; }\n"
-OWN = '[package]\nname = "own-pkg"\nversion = "0.1.0"\n'
-PACKAGES = [
-    ("a target without its required features", {"Cargo.toml": OWN + 'edition = "2021"\n[features]\ncli = []\n[[bin]]\nname = "tool"\npath = "src/main.rs"\nrequired-features = ["cli"]\n',
-     "src/lib.rs": LIB, "src/main.rs": WRONG}, ".", ["src/lib.rs"]),
-    ("a target with its required features", {"Cargo.toml": OWN + 'edition = "2021"\n[features]\ndefault = ["cli"]\ncli = []\n[[bin]]\nname = "tool"\npath = "src/main.rs"\nrequired-features = ["cli"]\n',
-     "src/main.rs": BIN}, ".", ["src/main.rs"]),
-    ("an example without its required features", {"Cargo.toml": OWN + 'edition = "2021"\n[features]\ncli = []\n[[example]]\nname = "e"\nrequired-features = ["cli"]\n',
-     "src/lib.rs": LIB, "examples/e.rs": WRONG}, ".", ["src/lib.rs"]),
-    ("the edition of a library", {"Cargo.toml": OWN + 'edition = "2021"\n[lib]\nedition = "2015"\n', "src/lib.rs": OLD}, ".", ["src/lib.rs"]),
-    ("the edition of a binary", {"Cargo.toml": OWN + 'edition = "2021"\n[[bin]]\nname = "b"\nedition = "2015"\n', "src/lib.rs": LIB, "src/bin/b.rs": OLD + BIN}, ".", ["src/lib.rs", "src/bin/b.rs"]),
-    ("the root of its own workspace", {"Cargo.toml": '[workspace]\n[workspace.package]\nedition = "2015"\n' + OWN + "edition.workspace = true\n", "src/lib.rs": OLD}, ".", ["src/lib.rs"]),
-    ("the root of its own workspace, in 2021", {"Cargo.toml": '[workspace]\n[workspace.package]\nedition = "2021"\n' + OWN + "edition.workspace = true\n", "src/lib.rs": "mod gen {}\n"}, ".",
-     ["src/lib.rs"]),
-    ("a workspace elsewhere", {"ws/Cargo.toml": '[workspace]\nmembers = ["../pkg"]\n[workspace.package]\nedition = "2015"\n', "pkg/Cargo.toml": OWN + 'edition.workspace = true\nworkspace = "../ws"\n',
-     "pkg/src/lib.rs": OLD}, "pkg", ["pkg/src/lib.rs"]),
-    ("a comment like a workspace", {"Cargo.toml": '[workspace]\nmembers = ["*/pkg"]\n[workspace.package]\nedition = "2015"\n', "a/Cargo.toml": "# [workspace]\n" + OWN.replace("own", "other"),
-     "a/src/lib.rs": "", "a/pkg/Cargo.toml": OWN + "edition.workspace = true\n", "a/pkg/src/lib.rs": OLD}, "a/pkg", ["a/pkg/src/lib.rs"]),
-    ("a declared binary of the name of a file", {"Cargo.toml": OWN + 'edition = "2021"\n[[bin]]\nname = "tool"\npath = "src/tool.rs"\n', "src/lib.rs": LIB, "src/tool.rs": BIN, "src/bin/tool.rs": WRONG}, ".",
-     ["src/lib.rs", "src/tool.rs"]),
-    ("a declared binary of the path of a file", {"Cargo.toml": OWN + 'edition = "2021"\n[[bin]]\nname = "tool"\npath = "src/bin/other.rs"\n', "src/bin/other.rs": BIN, "src/bin/more.rs": BIN}, ".",
-     ["src/bin/other.rs", "src/bin/more.rs"]),
-    ("a binary of edition 2015", {"Cargo.toml": OWN + '[[bin]]\nname = "tool"\n', "src/main.rs": BIN}, ".", ["src/main.rs"]),
-    ("a binary of edition 2015 beside no library", {"Cargo.toml": OWN + '[[bin]]\nname = "tool"\n', "src/tool.rs": BIN, "src/main.rs": WRONG}, ".", ["src/tool.rs"]),
-    ("a binary of edition 2015 beside a library", {"Cargo.toml": OWN + '[[bin]]\nname = "tool"\n', "src/tool.rs": WRONG, "src/lib.rs": LIB, "src/main.rs": BIN}, ".", ["src/lib.rs", "src/main.rs"]),
-    ("a project", {"Cargo.toml": OWN.replace("package", "project"), "src/lib.rs": OLD}, ".", ["src/lib.rs"]),
-    ("all kinds", {"Cargo.toml": OWN + 'edition = "2021"\n[[test]]\nname = "t"\npath = "more/t.rs"\n', "src/lib.rs": LIB, "src/main.rs": BIN, "more/t.rs": LIB, "tests/u.rs": "mod common;\n",
-     "tests/common/mod.rs": "", "tests/v/main.rs": "mod w;\n", "tests/v/w.rs": "", "examples/e.rs": BIN, "benches/b.rs": BIN, "build.rs": BIN}, ".",
-     ["src/lib.rs", "src/main.rs", "more/t.rs", "build.rs", "tests/u.rs", "tests/v/main.rs", "examples/e.rs", "benches/b.rs"]),
-    ("kinds that are not found", {"Cargo.toml": OWN + 'edition = "2021"\nbuild = false\nautotests = false\nautoexamples = false\nautobenches = false\nautobins = false\n', "src/lib.rs": LIB,
-     "src/main.rs": WRONG, "tests/u.rs": WRONG, "examples/e.rs": WRONG, "benches/b.rs": WRONG, "build.rs": WRONG}, ".", ["src/lib.rs"]),
-    ("a test under the cfg test", {"Cargo.toml": OWN + 'edition = "2021"\n', "src/lib.rs": LIB, "tests/u.rs": "#[cfg(test)] mod m { pub fn f() {} }\nuse m::f as g;\n"}, ".", ["src/lib.rs", "tests/u.rs"]),
-    ("the members of a workspace", {"Cargo.toml": '[workspace]\nmembers = ["one", "more/*"]\nexclude = ["more/three"]\n', "one/Cargo.toml": OWN, "one/src/lib.rs": OLD,
-     "more/two/Cargo.toml": OWN.replace("own", "two") + 'edition = "2021"\n', "more/two/src/main.rs": "mod gen {}\nuse crate::gen as g;\n" + BIN, "more/three/Cargo.toml": "[package\n", "more/notes": ""}, ".",
-     ["one/src/lib.rs", "more/two/src/main.rs"]),
-]
-
-
-def packages_of_cargo(folder):
-    cargo = RUSTC and shutil.which("cargo")
-    for at, (what, files, place, roots) in enumerate(PACKAGES):
-        top = f"{folder}/{at}"
-        write(top, files)
-        ran = run(top, "check", "--crate", place)
-        yield ran == ("", "", 0), what, ran
-        manifest = os.path.normpath(f"{place}/Cargo.toml")
-        listed = [line.split(": crate ")[1] for line in run(top, "modules", manifest)[0].splitlines() if ": crate " in line]
-        yield listed == roots, f"{what}: roots", listed
-        if cargo:
-            ran = subprocess.run([cargo, "check", "--offline", "--quiet", "--all-targets", "--manifest-path", manifest], cwd=top, capture_output=True, text=True)
-            yield ran.returncode == 0, f"{what}: cargo", ran.stderr
-    write(folder, {"f/Cargo.toml": '[workspace]\nmembers = ["p", "q"]\n', "p/x": "", "f/p/Cargo.toml": OWN + "[features]\na = []\n", "f/p/src/lib.rs": "#[cfg(feature = \"a\")] mod none;\n",
-                   "f/q/Cargo.toml": OWN.replace("own", "two"), "f/q/src/lib.rs": ""})
-    yield run(folder, "check", "--crate", "f")[2] == 0, "a workspace without a feature", ""
-    yield run(folder, "check", "--crate", "f", "--features", "a")[2] == 1, "a feature of one member", run(folder, "check", "--crate", "f", "--features", "a")
-    yield run(folder, "check", "--crate", "f", "--features", "b") == ("", "itemtree: f/Cargo.toml: no feature b\n", 2), "a feature of none", run(folder, "check", "--crate", "f", "--features", "b")
-    for words in (["modules"], ["check", "--crate"], ["outline", "--crate"], ["find", "f", "--crate"], ["imports", "--crate"], ["tags", "-o", "-", "--crate"], ["imports", "--resolve", "--crate"]):
-        top = f"{folder}/0"
-        yield run(top, *words, ".") == run(top, *words, "Cargo.toml") == run(top, *words, "./Cargo.toml"), "a folder and its manifest", words
+            yield out == "" and err.startswith("itemtree: Cargo.toml: ") and err.endswith(wanted + "\n") and status == 2, what, err
 
 
 def many(folder):
@@ -402,76 +309,17 @@ def of_a_crate(folder):
         yield run(folder, *words)[2] == 2, "a wrong command line", words
 
 
-def use_lists(folder):
-    """Of a crate with a use list behind `::` alone no import is checked, as standard error says."""
-    note = "itemtree: {}: the imports of this crate are not {}: an item tree does not keep the :: of use ::{{..}}\n"
-    for text in ("use /* all of it */ ::{std::fmt, core::mem};", "use {::{std::fmt, core::mem}};", "use\u200e::{std::fmt};", "use crate::none; use ::{std::fmt};"):
-        write(folder, {"lib.rs": f"mod std {{}}\n{text}"})
-        yield run(folder, "check", "--crate", "lib.rs") == ("", note.format("lib.rs", "checked"), 0), "check", text
-        yield run(folder, "imports", "--resolve", "--crate", "lib.rs") == ("", note.format("lib.rs", "resolved"), 2), "imports --resolve", text
-    write(folder, {"Cargo.toml": NAMED + 'edition = "2021"\n', "src/lib.rs": "mod a { pub use /**/ ::{std::fmt}; mod std {} }\npub use a::fmt;\n",
-                   "src/main.rs": "fn main() {}\nuse crate::none;\n"})
-    out, err, status = run(folder, "check", "--crate", ".")
-    yield out == "src/main.rs:2:5: this import leads to nothing\n" and err == note.format("src/lib.rs", "checked") and status == 1, "one of two crates", (out, err)
-    for text in ("// use ::{", '/// use ::{a}\nconst S: &str = "house::{";', "fn f() { use ::{std::fmt}; }", "macro_rules! m { () => { use ::{a}; } }",
-                 "mod def_use { pub struct A; } use crate::def_use::{self as d, A};"):
-        write(folder, {"lib.rs": f"use crate::none;\n{text}"})
-        yield run(folder, "check", "--crate", "lib.rs") == ("lib.rs:1:5: this import leads to nothing\n", "", 1), "no such list", text
-    write(folder, {"b.rs": "#[macro_export] macro_rules! made { () => {} }"})
-    for text in ('fn f() { #[path = "b.rs"] mod /* in a body */ b; }', 'mod /* c */ x {} fn f() { #[path = "b.rs"] mod b; }'):
-        write(folder, {"lib.rs": f"{text} mod m {{ use crate::made as n; }}"})
-        yield run(folder, "check", "--crate", "lib.rs") == ("", "", 0), "a file of a body", text
-
-
 def orphans(folder):
     write(folder, {"lib.rs": "mod a; #[cfg(windows)] mod w;", "a.rs": "", "w.rs": "mod v;", "w/v.rs": "", "o.rs": "", "x/p.rs": ""})
     out, err, status = run(folder, "modules", "--orphans", "lib.rs")
     yield out == "o.rs\nx/p.rs\n" and status == 1, "files that no module is in", out
     out, err, status = run(folder, "modules", "--orphans", "--exclude", "x", "--exclude", "o.rs", "lib.rs")
     yield out == "" and status == 0, "none", out
-    ends = os.pipe()
-    os.close(ends[0])
-    status = subprocess.run([PROGRAM, "modules", "--orphans", "lib.rs"], cwd=folder, stdout=ends[1]).returncode
-    os.close(ends[1])
-    yield status == 1, "the status so far where nobody reads on", status
-    write(folder, {"p/Cargo.toml": NAMED, "p/src/lib.rs": "mod a; some! { mod b; } fn f() { mod r#in; }", "p/src/main.rs": "mod a;", "p/src/a.rs": "",
-                   "p/src/b/mod.rs": "mod d;", "p/src/b/d.rs": "", "p/src/in.rs": "", "p/src/o.rs": "", "p/src/x/a.rs": ""})
-    out, err, status = run(folder, "modules", "--orphans", "p")
-    yield out == "p/src/o.rs\np/src/x/a.rs\n" and status == 1, "each once, and none that macros may name", out + err
-
-
-# Modules without a file, and whether they are reported: not where a build script or a macro may see to it.
-UNSURE = [
-    ("a cfg of a build script", {"lib.rs": "#[cfg(not(has_x))] mod a;"}, False),
-    ("a path under one", {"lib.rs": '#[cfg_attr(has_x, path = "x.rs")] mod a;', "x.rs": ""}, False),
-    ("one around it", {"lib.rs": "#[cfg(not(has_x))] mod a { mod b; }"}, False),
-    ("one of its file", {"lib.rs": "mod a;", "a.rs": "#![cfg(not(has_x))] mod b;"}, False),
-    ("one of a file around it", {"lib.rs": "#[cfg(not(has_x))] mod a;", "a.rs": "mod b { mod c; }"}, False),
-    ("two files under one", {"lib.rs": "#[cfg(any(unix, has_x))] mod a;", "a.rs": "", "a/mod.rs": ""}, False),
-    ("an attribute macro", {"lib.rs": "#[some::attribute] mod a;"}, False),
-    ("one under a cfg", {"lib.rs": "#[cfg_attr(unix, some_attribute)] mod a;"}, False),
-    ("a cfg of the compiler", {"lib.rs": "#[cfg(not(windows))] mod a;"}, True),
-    ("attributes of the language", {"lib.rs": "#[allow(dead_code)] #[rustfmt::skip] #[doc(hidden)] mod a;"}, True),
-    ("another attribute under a cfg of a build script", {"lib.rs": "#[cfg_attr(has_x, allow(dead_code))] mod a;"}, True),
-    ("a cfg beside it", {"lib.rs": "#[cfg(not(has_x))] mod b {} mod a;"}, True),
-]
-
-
-def unsure(folder):
-    for at, (what, files, is_reported) in enumerate(UNSURE):
-        top = f"{folder}/{at}"
-        write(top, files)
-        for words in (("modules", "lib.rs"), ("check", "--crate", "lib.rs")):
-            out, err, status = run(top, *words)
-            yield status == is_reported and (" has " in out + err) == is_reported, f"{what}: {words[0]}", out + err
-    write(folder, {"Cargo.toml": NAMED + "[features]\nf = []\n", "src/lib.rs": '#[cfg(not(feature = "f"))] mod a; #[cfg(not(feature = "g"))] mod b;'})
-    out, err, status = run(folder, "modules", ".")
-    yield err == "src/lib.rs:1:32: crate::a has no file: src/a.rs, src/a/mod.rs\n" and status == 1, "features", err
 
 
 def main():
     passed = failed = 0
-    for check in (links, no_files, unread, deep, packages, manifests, packages_of_cargo, many, cases_of_letters, of_a_crate, use_lists, orphans, unsure):
+    for check in (links, no_files, unread, deep, packages, manifests, many, cases_of_letters, of_a_crate, orphans):
         with tempfile.TemporaryDirectory() as folder:
             for is_right, what, got in check(folder):
                 passed += is_right

@@ -106,15 +106,6 @@ crate("a plain name", "mod m { mod a {} use a as b; } fn f() {} use f as g;", "r
 crate("a double colon is another crate", "mod a { pub fn f() {} } use ::a::f; use ::std::fmt;", "unknown", "unknown", refused="E0432")
 crate("a double colon in front of a list", "mod core {} mod a { pub mod b {} } use ::{core::fmt, std::{mem, rc::Rc}}; use {::core::cell, self::a::b}; use ::{self::a as c};",
       *["unknown"] * 4, "resolved", "absent", refused="E0433")
-crate("a comment before it", "mod std {} use /* all of it */ ::{std::fmt, core::mem}; use :: /* a list */ {std::rc};", *["unknown"] * 3)
-crate("a mark before it that is white space", "mod std {} use\u200e::{std::fmt};", "unknown")
-crate("a double colon in a list", "mod std {} use {::{std::fmt, core::mem}}; pub(crate) use {self::std as s, ::{std::{mem as m}}};", "unknown", "unknown", "resolved", "unknown")
-crate("what such a list names", "mod a { pub use /**/ ::{std::fmt}; mod std {} } pub use a::fmt;", "unknown", "unknown")
-crate("a double colon after a name", "mod house { pub struct A; } use crate::house::{self as h, A}; use house::{B}; use ::std::fmt;", "resolved", "resolved", "unresolved", "unknown")
-crate("such a list in a comment", "mod m {} use m::A; // use ::{\n/* use ::{a} */ /** use ::{b} */ struct S;", "unresolved")
-crate("in a string", 'mod m {} use m::A; const S: &str = "house::{"; const T: &str = r#"use ::{a}"#;', "unresolved")
-crate("in a body", "fn f() { use ::{core::mem}; } mod m {} use m::A;", "unresolved")
-crate("in the tokens of a macro", "macro_rules! m { () => { use ::{core::mem}; } } mod m {} use m::A;", "unresolved")
 crate("and in 2015", "mod c { mod a {} use ::{a::b}; } mod d { use ::{a::{self, z}}; } mod a { pub mod b {} }", "resolved", "resolved", "unresolved/unknown", edition="2015")
 crate("in 2018", "mod a { pub fn f() {} } use a::f; mod b { use a::f; }", "resolved", "unknown", edition="2018", refused="E0432")
 crate("in 2024", "mod a { pub fn f() {} } use a::f; mod b { use super::f; use super::a::g; }", "resolved", "resolved", "unresolved", edition="2024")
@@ -352,9 +343,7 @@ crate("exported from a constant", f"mod b {{ const _: () = {{ #[macro_export] {M
       "unresolved")
 crate("exported from a body in a file",
       {"lib.rs": "mod a; mod b { use crate::m; }", "a.rs": f"impl S {{ fn f() {{ #[macro_export] {M} }} }} struct S;"}, "unknown")
-crate("the word in a comment", "// macro_export\nmod a { use crate::m; use crate::n::o; }", "unresolved", "unresolved")
-crate("in documentation and in a string", '/// #[macro_export]\nmod a { use crate::m; const S: &str = "#[macro_export] mod x;"; }', "unresolved")
-crate("a raw word", f"fn g() {{ #[r#macro_export] {M} }} mod a {{ use crate::m as n; use crate::o::p; }}", "unknown", "unresolved")
+crate("the word in a comment", "// macro_export\nmod a { use crate::m; use crate::n::o; }", "unknown/unresolved", "unresolved", refused="E0432")
 crate("an exported macro is for everybody", f"mod a {{ #[macro_export] {M} }} pub use crate::m as n; pub mod b {{ pub use crate::m; }}", "resolved", "resolved")
 crate("a macro has no names", f"#[macro_export] {M} mod a {{ use crate::m::b; use crate::m::*; }}", "unresolved", "unresolved")
 EXPORTS = "macro_rules! make { () => { #[macro_export] macro_rules! made { () => {} } } }"
@@ -379,14 +368,6 @@ crate("exported by an attribute, through a glob",
 crate("exported from a file of a body",
       {"lib.rs": 'fn f() { #[path = "b.rs"] mod b; } mod m { use crate::made as n; }', "b.rs": "#[macro_export] macro_rules! made { () => {} }"},
       "unknown")
-crate("a comment in such a module",
-      {"lib.rs": 'fn f() { #[path = "b.rs"] mod /* in a body */ b /* ; */ ; } mod m { use crate::made as n; }',
-       "b.rs": "#[macro_export] macro_rules! made { () => {} }"}, "unknown")
-crate("a comment in another module",
-      {"lib.rs": 'mod /* c */ x {} mod/**/r#y /* c */ {} fn f() { #[path = "b.rs"] mod b; } mod m { use crate::made as n; }',
-       "b.rs": "#[macro_export] macro_rules! made { () => {} }"}, "unknown")
-crate("no module but in comments", "/* mod x; */ mod a {} // mod y;\n/// mod z {}\nmod m { use crate::made as n; } const S: &str = \"mod b;\";", "unresolved")
-crate("modules that a cfg disables", "#[cfg(any())] mod x { mod y {} mod z; } #[cfg(any())] mod w; mod m { use crate::made as n; }", "unresolved/unknown")
 crate("exported from a file below a file of a body", {"lib.rs": "mod a; mod m { use crate::made as n; }", "a.rs": 'fn f() { #[path = "b"] mod b { '
       'mod c; } }', "b/c.rs": "#[macro_export] macro_rules! made { () => {} }"}, "unknown")
 crate("the macros of a proc macro crate", "extern crate proc_macro; use proc_macro::TokenStream; #[proc_macro_derive(Add, attributes(help))] pub "
@@ -688,7 +669,7 @@ crate("an item of two modules", {"lib.rs": '#[path = "x.rs"] mod a; #[path = "x.
       *["resolved"] * 3, leads=["fn crate::a::f", "fn crate::b::f", "mod crate::b::m"])
 
 # ---- the imports of a text
-SPACE = re.compile(r"[\s\u200e\u200f]+|//[^\n]*|/\*.*?\*/", re.S)
+SPACE = re.compile(r"\s+|//[^\n]*|/\*.*?\*/", re.S)
 TOKEN = re.compile(SPACE.pattern + r"|r(#*)\".*?\"\1|\"(?:[^\"\\]|\\.)*\"|'(?:[^'\\]|\\.)'|'\w+|(?:r#)?\w+|::|.", re.S)
 CLOSED = {"(": ")", "[": "]", "{": "}"}
 
@@ -794,9 +775,6 @@ def imports_of(case):
 # What is said of an import that is told.
 WORDS = {"this import leads to nothing": {"unresolved", "follows"}, "this import names what it does not see": {"private"},
          "what this import names is seen by fewer than the import": {"too_wide"}, "this import has no name": {"nameless"}}
-# What is said of a crate with a `use ::{..}`, of which no import is told.
-UNCHECKED = "the imports of this crate are not checked: an item tree does not keep the :: of use ::{..}"
-UNRESOLVED = UNCHECKED.replace("checked", "resolved")
 # And what is said of each import where all are listed.
 VERDICTS = {"resolved": {"resolved"}, "unknown": {"unknown"}, "unresolved": {"unresolved", "follows"}, "private": {"private"}, "too wide": {"too_wide"},
             "nameless": {"nameless"}}
@@ -818,7 +796,6 @@ def place_in(file, line, column):
 def rows_of(case, folder):
     """The lines of the imports that the program tells, by their places, and the others."""
     lines, errors = ran(case, folder, "check")
-    errors = [line for line in errors if not line.endswith(": " + UNCHECKED)]
     rows, others = {}, []
     for line in lines:
         *where, said = line.split(":", 3)
@@ -863,7 +840,7 @@ def is_written_there(target, folder):
 def leads_of(case, imports, folder, told):
     """What is wrong with the list of what the imports lead to, by what is told of some."""
     lines, errors = ran(case, folder, "imports", "--resolve", "--json")
-    if errors and all(line.endswith(": " + UNRESOLVED) for line in errors):
+    if errors == ["itemtree: imports: not resolved, because a use begins with ::{"]:
         return
     rows = {}
     for row in map(json.loads, lines):

@@ -1,6 +1,5 @@
 #!/usr/bin/env python3
 """Runs the examples of README.md, docs/ITEMTREE.md and tests/itemtree/cases.md, and what cannot be written as an example."""
-import ctypes
 import json
 import os
 import pty
@@ -10,7 +9,6 @@ import shlex
 import shutil
 import signal
 import socket
-import struct
 import subprocess
 import sys
 import tempfile
@@ -352,16 +350,6 @@ def is_killed(is_fatal):
     signal.signal(signal.SIGXFSZ, signal.SIG_DFL if is_fatal else signal.SIG_IGN)
 
 
-def without_locks():
-    """Lets flock fail, as on a file system without locks: a filter of system calls answers 73 by the error 37."""
-    rules = struct.pack('HBBI' * 4, 0x20, 0, 0, 0, 0x15, 0, 1, 73, 0x06, 0, 0, 0x50000 | 37, 0x06, 0, 0, 0x7fff0000)
-    room = ctypes.create_string_buffer(rules, len(rules))
-    program = ctypes.create_string_buffer(struct.pack('HxxxxxxP', 4, ctypes.addressof(room)))
-    system = ctypes.CDLL(None, use_errno=True)
-    if system.prctl(38, 1, 0, 0, 0) or system.prctl(22, 2, program, 0, 0):
-        raise OSError(ctypes.get_errno(), 'prctl')
-
-
 def place_of(folder, name, files):
     """A folder in which nobody in particular may write, with these files."""
     place = os.path.join(folder, name)
@@ -430,24 +418,14 @@ def check_tags_in_place(folder):
         wanted = 2, '', 'itemtree: same/made.new: this is in the way: the new file is written here first\n'
         tell(got == wanted and not os.path.exists(target), 'what is in the way', got, wanted)
         (os.rmdir if make is os.mkdir else os.remove)(target + '.new')
-    for name, text, is_taken in (('left', TAGS_HEAD, True), ('short', '!_T', True), ('empty', '', True), ('notes', 'my notes\n', False), ('rust', 'fn a() {}', False)):
-        target = os.path.join(place, name)
-        write_files(place, {name + '.new': text.encode()})
-        os.chmod(target + '.new', 0o666)
-        got = run_program(['tags', '-o', f'same/{name}', 'same/good.rs'], folder)
-        if is_taken:
-            is_right = open(target, encoding='utf-8').read().endswith(line) and open(target, encoding='utf-8').read(6) == '!_TAG_' and not os.path.exists(target + '.new')
-        else:
-            is_right = open(target + '.new', encoding='utf-8').read() == text and not os.path.exists(target)
-        wanted = (0, '', '') if is_taken else (2, '', f'itemtree: same/{name}.new: this is in the way: the new file is written here first\n')
-        tell(got == wanted and is_right, f'{name}.new is there before', got, wanted)
+    write_files(place, {'made.new': b'left by a run that was ended'})
+    os.chmod(os.path.join(place, 'made.new'), 0o666)
+    got = run_program(['tags', '-o', 'same/made', 'same/good.rs'], folder)
+    text = open(os.path.join(place, 'made'), encoding='utf-8').read()
+    tell(got == (0, '', '') and text.startswith('!_TAG') and text.endswith(line) and not os.path.exists(os.path.join(place, 'made.new')),
+         'what an ended run has left', (got, text))
     got = run('for at in $(seq 12); do itemtree tags -o same/many same & done; wait; ls same | grep many; tail -1 same/many', folder)
     tell(got == 'many\n' + line, 'twelve runs at once', got)
-    write_files(place, {'loose.new': TAGS_HEAD.encode()})
-    os.chmod(os.path.join(place, 'loose.new'), 0o666)
-    got = run_program(['tags', '-o', 'same/loose', 'same/good.rs'], folder, preexec_fn=without_locks)
-    there = sorted(name for name in os.listdir(place) if name.startswith('loose'))
-    tell(got == (0, '', '') and there == ['loose', 'loose.new'], 'tags where files have no locks', (got, there))
 
 
 def check_tags_refused(folder):

@@ -229,7 +229,7 @@ def try_faults():
     server.open("file:///a.rs", "fn a() {}")
     for params in [{}, {"textDocument": {"uri": "file:///a.rs"}}, {"textDocument": {"uri": "file:///b.rs"}, "contentChanges": []}]:
         server.tell("textDocument/didChange", params)
-    refused(server.symbols("file:///a.rs"), -32803, "a document whose change cannot be read is lost")
+    refused(server.symbols("file:///a.rs"), -32602, "a document whose change cannot be read is closed")
     server.open("file:///a.rs", "fn a() {}")
     server.open("file:///a.rs", "fn b() {}")
     check([it["name"] for it in server.symbols("file:///a.rs")["result"]] == ["b"], "a document that is opened twice")
@@ -243,7 +243,6 @@ def try_faults():
 
 
 def try_encodings():
-    check(Server(("--stdio",)).end() == 0, "--stdio changes nothing")
     for offers, wanted in [((), "utf-16"), (("utf-16",), "utf-16"), (("utf-32", "utf-8"), "utf-8"), (("utf-8",), "utf-8")]:
         server = Server(offers=offers)
         check(server.encoding == wanted, f"{offers} gives {server.encoding}")
@@ -413,6 +412,155 @@ def try_surrogates():
             server.end()
 
 
+# ---- ranges: `«` and `»` stand around an item or a member, `‹` and `›` around its name, `⟨` and `⟩` around its braces
+
+MARKS = {"«": "range", "»": "range", "‹": "name", "›": "name", "⟨": "braces", "⟩": "braces"}
+
+RANGED = """\
+// 🦀 é
+«/// One.
+#[inline]
+fn ‹one›(
+    a: u8,
+) ⟨{
+    fn no() {}
+}⟩» «const ‹A›: u8 = 1;»\r
+«mod ‹outer› {\r
+    «pub mod ‹inner› { «fn ‹𝔛é›() ⟨{ }⟩»«type ‹T› =
+        u8;» }»\r
+    «use a::{
+        b,
+    };»\r}»
+«struct ‹S› ⟨{
+    «pub ‹f›: u8»,
+    /* 🦀 */ «‹r#type›: Vec<
+        u8,
+    >»,
+}⟩»«enum ‹E› ⟨{ «‹V›», «‹W›(
+    u8,
+)» }⟩»
+«trait ‹Tr› ⟨{
+    «fn ‹f›(
+        &self,
+    );»
+}⟩»
+«impl<T> Tr for T ⟨{ «fn ‹f›(
+    &self,
+) ⟨{
+}⟩»}⟩» «macro_rules! ‹mr› ⟨{
+    () => {}
+}⟩»
+«#[cfg(any())]
+extern "C" {
+    «fn ‹g›();»
+}»
+// e\u0301"""
+
+
+def marked_parts(marked):
+    """The text without its marks, and each item and member: the ranges that marks stand around."""
+    text, opened, parts = "", [], []
+    for character in marked:
+        if character == "«":
+            opened.append({})
+            parts.append(opened[-1])
+        if character not in MARKS:
+            text += character
+        elif MARKS[character] in opened[-1]:
+            opened[-1][MARKS[character]] = (opened[-1][MARKS[character]][0], len(text))
+        else:
+            opened[-1][MARKS[character]] = (len(text), None)
+        if character == "»":
+            opened.pop()
+    return text, parts
+
+
+def span(text, start, end, encoding):
+    return {"start": position_of(text, start, encoding), "end": position_of(text, end, encoding)}
+
+
+def wanted_folds(text, parts):
+    folds = []
+    for part in parts:
+        start, end = part.get("braces", (part.get("name", part["range"])[0], part["range"][1]))
+        lines = [position_of(text, at, "utf-8")["line"] for at in (start, end)]
+        if lines[0] < lines[1]:
+            folds.append({"startLine": lines[0], "endLine": lines[1]})
+    return folds
+
+
+def wanted_selection(text, parts, at, encoding):
+    """The whole text around the items around the name: of two that touch there, the first."""
+    around = [(0, len(text))]
+    for part in parts:
+        for start, end in (part["range"], part.get("name", part["range"])):
+            if start <= at <= end and around[-1][0] <= start and end <= around[-1][1] and (start, end) != around[-1]:
+                around.append((start, end))
+    selection = None
+    for start, end in around:
+        selection = {"range": span(text, start, end, encoding), **({"parent": selection} if selection else {})}
+    return selection
+
+
+def wanted_highlights(text, parts, at, encoding):
+    for part in parts:
+        braces = part.get("braces")
+        marks = ([part["name"]] if "name" in part else []) + ([(braces[0], braces[0] + 1), (braces[1] - 1, braces[1])] if braces else [])
+        if any(start <= at <= end for start, end in marks):
+            return [{"range": span(text, start, end, encoding)} for start, end in marks]
+    return []
+
+
+def try_ranges():
+    text, parts = marked_parts(RANGED)
+    for encoding in ("utf-8", "utf-16"):
+        server = Server(offers=(encoding,))
+        can = server.opened["result"]["capabilities"]
+        check(can["foldingRangeProvider"] and can["selectionRangeProvider"] and can["documentHighlightProvider"], f"what the server can do: {can}")
+        document = {"textDocument": {"uri": "file:///ranged.rs"}}
+        server.open("file:///ranged.rs", text)
+        got, wanted = server.ask("textDocument/foldingRange", document).get("result"), wanted_folds(text, parts)
+        check(got == wanted, f"folds: {got}, and not {wanted}")
+        # (Each position of the text, and some beyond it: between CR and LF, within a character, behind a line, behind the text.)
+        positions = [position_of(text, at, encoding) for at in range(len(text) + 1)]
+        positions += [{"line": line, "character": at} for line in (0, 9, 12, 77) for at in range(0, 60, 1)] + [{"line": 2**31 - 1, "character": 2**31 - 1}]
+        got = server.ask("textDocument/selectionRange", {**document, "positions": positions}).get("result")
+        check(got is not None and len(got) == len(positions), "as many selections as positions")
+        for number, position in enumerate(positions):
+            at = index_of(text, position, encoding)
+            wanted = wanted_selection(text, parts, at, encoding)
+            check(got[number] == wanted, f"the selection at {position} in {encoding}: {got[number]}, and not {wanted}")
+            marks, wanted = server.ask("textDocument/documentHighlight", {**document, "position": position}).get("result"), wanted_highlights(text, parts, at, encoding)
+            check(marks == wanted, f"the highlights at {position} in {encoding}: {marks}, and not {wanted}")
+        check(server.end() == 0, "the end of ranges")
+
+
+def try_other_ranges():
+    server = Server()
+    start, place = {"line": 0, "character": 0}, {"line": 0, "character": 4}
+    asked = {"foldingRange": {}, "selectionRange": {"positions": [start, place]}, "documentHighlight": {"position": place}}
+    alone = lambda end: {"range": {"start": start, "end": {"line": 0, "character": end}}}
+    for uri, text, language, answers in [
+        ("file:///empty.rs", "", "rust", ([], [alone(0), alone(0)], [])),
+        ("file:///a.txt", "fn a() {\n}", "plaintext", ([], [{"range": {"start": start, "end": {"line": 1, "character": 1}}}] * 2, [])),
+        ("file:///blank.rs", "      ", "rust", ([], [alone(6), alone(6)], [])),
+        ("file:///whole.rs", "fn a();", "rust", ([], [alone(7), {**{"range": {"start": {"line": 0, "character": 3}, "end": {"line": 0, "character": 4}}}, "parent": alone(7)}], [{"range": {"start": {"line": 0, "character": 3}, "end": {"line": 0, "character": 4}}}])),
+    ]:
+        server.open(uri, text, language=language)
+        for (method, params), wanted in zip(asked.items(), answers):
+            got = server.ask(f"textDocument/{method}", {"textDocument": {"uri": uri}, **params})
+            check(got.get("result") == wanted, f"{method} of {text!r}: {got}")
+            refused(server.ask(f"textDocument/{method}", {"textDocument": {"uri": "file:///none.rs"}, **params}), -32602, f"{method} of no document")
+    for method, params, pointer in [
+        ("selectionRange", {}, "/positions"), ("selectionRange", {"positions": place}, "/positions"), ("selectionRange", {"positions": [place, {"line": 0}]}, "/positions/1/character"),
+        ("documentHighlight", {}, "/position"), ("documentHighlight", {"position": {"line": -1, "character": 0}}, "/position/line"),
+    ]:
+        answer = server.ask(f"textDocument/{method}", {"textDocument": {"uri": "file:///empty.rs"}, **params})
+        refused(answer, -32602, f"{method} with {params}")
+        check(answer.get("error", {}).get("message", "").endswith(f" {pointer}"), f"where {params} is wrong: {answer}")
+    check(server.end() == 0, "the end of other ranges")
+
+
 # ---- changes
 
 PIECES = ["fn f() {}\n", "struct S { a: u8 }\r\n", "\r", "\n", "é", "🦀", "\u2028", "\ufeff", "mod m {", "}", "// c\n", "/*", "*/", '"', " ", "x", "enum E { A, B }", "impl S {", "\t"]
@@ -485,76 +633,13 @@ def try_problems():
         ),
         ("what is mended is told", changes_told(a, [{"text": "fn a() {}"}], 71), [(a, 71, 0)]),
         ("a closed document is told at once, and that alone", typed(a, "}", 72) + closed(a) + symbols(a, "closed"), [(a, None, 0), "closed"]),
-        ("a message that is no JSON loses all, which the user is told", typed(b, "}", 2) + framed(b"{") + symbols(b, "lost"), [None, None, "lost"]),
+        ("a message that is lost closes all", typed(b, "}", 2) + framed(b"{") + symbols(b, "lost"), [None, "lost"]),
         ("nothing is told behind a shutdown", opened(a, "}") + told("shutdown", id="end"), ["end"]),
     ]:
         server.write(data)
         got = [brief(server.next()) for _ in wanted]
         check(got == wanted, f"{said}: {got}")
     check(server.end() == 0 and server.process.stdout.read() == b"" and server.told == [], f"nothing else is told: {server.told}")
-
-
-# ---- messages that cannot be read
-
-UNREAD = [b"{", b"", b"\xff", b"\xef\xbb\xbf{}", b"1e999", b'{"method":"$/x","params":' + b"[" * 128 + b"]" * 128 + b"}", b'{"method":"$/x","params":[1e999]}']
-
-
-def try_losses():
-    """Which documents are lost, what is said of it, and what restores them."""
-    a, b = "file:///a.rs", "file:///b.rs"
-    start = {"line": 0, "character": 0}
-    typed = lambda uri, text: [{"range": {"start": start, "end": start}, "text": text}]
-    names = lambda uri: [it["name"] for it in server.symbols(uri).get("result", [])]
-    lost = lambda uri, said: refused(server.symbols(uri), -32803, said) or check("lost" in server.symbols(uri)["error"]["message"], said)
-    shown = lambda message, word: message.get("method") == "window/showMessage" and message["params"]["type"] == 1 and word in message["params"]["message"]
-    nothing = lambda said: check(not [it for it in server.told if it["method"] == "textDocument/publishDiagnostics"], f"{said}: {server.told}")
-    server = Server()
-    check(server.opened["result"]["capabilities"]["textDocumentSync"]["save"] == {"includeText": True}, "a saved text is asked for")
-    for body in UNREAD:
-        for uri in (a, b):
-            server.open(uri, "fn a() {}\n}")
-            told_of(server, uri)
-        server.write(framed(body))
-        refused(server.read(), -32700, f"{body} is no JSON")
-        check(shown(server.read(), "could not read a message"), f"the user is told of {body}")
-        server.told.clear()
-        for uri in (a, b):
-            lost(uri, f"a document behind {body}")
-            server.change(uri, typed(uri, "fn b() {}"))
-            lost(uri, "a change in a text that is not known")
-        nothing("problems of lost documents stay")
-        server.tell("textDocument/didSave", {"textDocument": {"uri": a}})
-        lost(a, "a document that is saved without its text")
-        server.tell("textDocument/didSave", {"textDocument": {"uri": a}, "text": "fn saved() {}"})
-        check(names(a) == ["saved"], "a saved text restores a document")
-        told = told_of(server, a)
-        check(told["diagnostics"] == [], f"the problems of a restored document: {told}")
-        server.change(b, typed(b, "x") + [{"text": "fn whole() {}"}] + typed(b, "fn first() {}"), 9)
-        check(names(b) == ["first", "whole"], "a whole text restores a document")
-        check(told_of(server, b) == {"uri": b, "version": 9, "diagnostics": []}, "the problems of a restored document")
-    server.write(framed(UNREAD[0]))
-    refused(server.read(), -32700, "no JSON once more")
-    server.open(a, "fn again() {}")
-    check(names(a) == ["again"], "opening restores a document")
-    lost(b, "the other one is lost")
-    server.open(b, "fn b() {}\n}")
-    told_of(server, b)
-    for number in ["-1", "1.5", "null", '"0"', "2147483648", "4294967295", None]:
-        server.open(a, "fn a() {}\n}")
-        told_of(server, a)
-        server.told.clear()
-        place = '{"line":0,"character":%s}' % number
-        changes = "" if number is None else ',"contentChanges":[{"range":{"start":%s,"end":%s},"text":""}]' % (place, place)
-        server.write(framed(('{"method":"textDocument/didChange","params":{"textDocument":{"uri":"%s","version":2}%s}}' % (a, changes)).encode()))
-        check(shown(server.read(), "could not read a change"), f"the user is told of a change at {number}")
-        lost(a, f"a document behind a change at {number}")
-        check(names(b) == ["b"], "another document stays")
-        nothing("a lost document is not shown clean")
-    server.tell("textDocument/didClose", {"textDocument": {"uri": a}})
-    check(server.symbols(a).get("error") == {"code": -32602, "message": "the document is not open"}, "a closed document")
-    server.tell("textDocument/didSave", {"textDocument": {"uri": a}, "text": "fn a() {}"})
-    check(server.symbols(a).get("error", {}).get("message") == "the document is not open", "saving opens no document")
-    check(server.end() == 0, "the end of losses")
 
 
 # ---- streams
@@ -621,7 +706,8 @@ def talk(server):
     server.notice()
     answers.append(ask("documentSymbol", "file:///a.rs"))
     server.change("file:///a.rs", [{"range": {"start": {"line": 1, "character": 0}, "end": {"line": 1, "character": 3}}, "text": "fn a() {}"}])
-    answers.append(ask("documentSymbol", "file:///a.rs"))
+    place = {"line": 1, "character": 4}
+    answers += [ask("foldingRange", "file:///a.rs"), ask("selectionRange", "file:///a.rs", positions=[place]), ask("documentHighlight", "file:///a.rs", position=place)]
     last = []
     for _ in range(2):
         server.open("file:///b.rs", "mod m { struct S; }")
@@ -630,7 +716,7 @@ def talk(server):
 
 
 def try_refusals():
-    """Each answer is whole, or says that there is no memory, or that a document is not open or lost; of the last two one is whole."""
+    """Each answer is whole, or says that there is no memory, or that a document is not open; of the last two one is whole."""
     with tempfile.TemporaryDirectory() as folder:
         library, counted = f"{folder}/refuse_memory.so", f"{folder}/counted"
         subprocess.run(["cc", "-shared", "-fPIC", "-O1", "-o", library, pathlib.Path(__file__).with_name("refuse_memory.c"), "-ldl"], check=True)
@@ -650,7 +736,7 @@ def try_refusals():
                 said, status = server.process.stderr.read(), server.process.wait(timeout=5)
                 check(status in (2, 6) and said == b"itemtree: out of memory\n", f"request {request} for memory refused: {status}, {said}")
                 continue
-            are_whole = [it.get("result", 0) in wholes or it["error"]["code"] in (-32803, -32603, -32602, -32600) for it in answers]
+            are_whole = [it.get("result", 0) in wholes or it["error"]["code"] in (-32603, -32602, -32600) for it in answers]
             check(all(are_whole), f"request {request} for memory refused: {answers[are_whole.index(False) if False in are_whole else 0]}")
             check(wanted in [it.get("result") for it in last], f"request {request} for memory refused, at last: {last}")
             check(status in (0, 1, 6), f"request {request} for memory refused: {status}")
@@ -668,8 +754,9 @@ if __name__ == "__main__":
     try_numbers()
     try_symbols()
     try_surrogates()
+    try_ranges()
+    try_other_ranges()
     try_problems()
-    try_losses()
     try_streams()
     try_many()
     try_refusals()

@@ -780,7 +780,7 @@ def verdicts_of(drawn):
 def told_by_program(program, drawn, folder):
     """The lines of the imports that it tells: file, line, column, words; and what else it says that no crate here should have."""
     ran = subprocess.run([program, "check", *arguments_of(drawn)], cwd=folder, capture_output=True, text=True, timeout=60, check=False)
-    rows, others = collections.Counter(), [line for line in ran.stderr.splitlines() if ": the imports of this crate are not checked: " not in line]
+    rows, others = collections.Counter(), ran.stderr.splitlines()
     for line in ran.stdout.splitlines():
         file, row, column, said = line.split(":", 3)
         if said[1:] in TOLD.values():
@@ -823,7 +823,7 @@ def compare_all(program, drawn, verdicts, spans, folder):
     """What is wrong with what `imports --resolve` says of each import, and with what each leads to."""
     ran = subprocess.run([program, "imports", "--resolve", "--json", *arguments_of(drawn)], cwd=folder, capture_output=True, text=True, timeout=60, check=False)
     rows = [json.loads(line) for line in ran.stdout.splitlines()]
-    if not rows and ": the imports of this crate are not resolved: " in ran.stderr:
+    if not rows and "a use begins with ::{" in ran.stderr:
         return []
     found = collections.Counter((os.path.normpath(row["file"]), row["line"], row["column"], row["verdict"], " ".join(sorted({it["path"] for it in row["targets"]}))) for row in rows)
     wanted = collections.Counter((it.file, *spans[it.file][it.leaf][-1][0], verdict, " ".join(sorted(targets))) for it, verdict, targets in verdicts)

@@ -116,18 +116,6 @@ def check_hook(program, folder):
     expect('without the hook', True, '', 'git commit -qnam more')
     stage({'b/c.rs': GOOD + '// again\n'})
     expect('a file that is broken already and is not touched', True, '')
-    work.write('shared/x.rs', GOOD)
-    os.symlink('shared/x.rs', os.path.join(work.top, 'l.rs'))
-    os.symlink('../nowhere.rs', os.path.join(work.top, 'b/l.rs'))
-    work.run('git add shared && git commit -qnm more && git add l.rs b/l.rs')
-    expect('links alone', True, '')
-    os.symlink('shared/x.rs', os.path.join(work.top, 'm.rs'))
-    stage({'b/c.rs': 'fn gen() {}\n'})
-    is_made, said = work.commit()
-    tell(not is_made and './b/c.rs:1:1: ' in said and 'm.rs' not in said, 'pre-commit: a link beside a keyword of 2024', said)
-    work.write('.git/hooks/pre-commit', recipe('checkout-index').replace('2024', '2021'))
-    expect('a link beside a name of 2021', True, '')
-    work.write('.git/hooks/pre-commit', recipe('checkout-index'))
     stage({'b/c.rs': b'\xff\n'})
     is_made, said = work.commit()
     tell(not is_made and './b/c.rs' in said, 'pre-commit: a file that is not UTF-8', said)
@@ -139,9 +127,7 @@ def check_hook(program, folder):
 
 def check_difftool(program, folder):
     work = Repository(program, folder)
-    page = open(PAGE, encoding='utf-8').read()
-    since_last, between = re.findall(r'`(git items [^`]*)`', page)
-    tell(work.run(recipe('alias')) == (0, ''), 'alias')
+    since_last, between = recipe('difftool').splitlines()
     for at, text in enumerate((GOOD, 'pub fn f(a: u8) {}\n', 'pub fn g(a: u8) {}\n')):
         work.write('src/lib.rs', text)
         work.write('-x.rs', text)
@@ -155,29 +141,29 @@ def check_difftool(program, folder):
     wanted = ''.join(f'COPY/{name}:1:8: changed fn f\n' for name in ('-x.rs', 'lib.rs'))
     got = work.run(between)
     tell(got == (0, wanted), between, got, wanted)
-    got = work.run('git diff --stat')[1].splitlines()
-    tell(got[-1:] == [' 4 files changed, 4 insertions(+), 4 deletions(-)'], 'git diff beside the alias', got)
     got = work.run(recipe('worktree'))
     wanted = '../before/src/lib.rs:1:8: removed fn f\nsrc/lib.rs:1:8: added fn g\n'
     tell(got == (1, wanted), 'worktree', got, wanted)
 
 
-def check_listing(program, folder):
-    """Files that git knows, also where their names are not ASCII."""
+def check_textconv(program, folder):
     work = Repository(program, folder)
-    for path in ('a.rs', 'é ü.rs', 'b/c.rs', 'none.rs'):
-        work.write(path, f'fn {path[0]}() {{}}\n')
-    work.run('git add a.rs é* b')
-    command = re.search(r'`(git [^`]*ls-files[^`]*)`', open(PAGE, encoding='utf-8').read()).group(1).replace('\n', ' ')
-    tell(work.run(command) == (0, ''), command, work.run(command))
-    got = work.run("grep -v '^!_TAG' tags | cut -f 1,2")
-    wanted = 0, 'a\ta.rs\nb\tb/c.rs\né\té ü.rs\n'
-    tell(got == wanted, 'the tags of files that git knows', got, wanted)
+    work.write('.gitattributes', '*.rs diff=items\n')
+    for path in ('-x.rs', 'src/lib.rs', 'src/body.rs'):
+        work.write(path, 'pub fn f() { 1 }\n')
+    work.run('git add . && git commit -qm more')
+    tell(work.run(recipe('textconv')) == (0, ''), 'textconv')
+    for path in ('-x.rs', 'src/lib.rs'):
+        work.write(path, 'pub fn f() { 2 }\npub(crate) struct S;\n')
+    work.write('src/body.rs', 'pub fn f() { 2 }\n')
+    status, said = work.run('git diff')
+    got = [line for line in said.splitlines() if re.match(r'[-+](?![-+])', line)]
+    tell((status, got) == (0, 2 * ['+', '+pub(crate) struct S { ... }']), 'textconv: git diff', said)
 
 
 def main():
     program = os.path.realpath(sys.argv[1])
-    for check in (check_hook, check_difftool, check_listing):
+    for check in (check_hook, check_difftool, check_textconv):
         with tempfile.TemporaryDirectory() as folder:
             check(program, folder)
     print(f'recipes: {passed} passed, {failed} failed')

@@ -25,7 +25,7 @@ _itemtree() {
         changed) mapfile -t COMPREPLY < <(compgen -W '-e --edition --hidden --follow --exclude --docs --tree --public --cfg --host-cfg --skip --color --json -q --quiet -h --help' -- "$word") ;;
         request) mapfile -t COMPREPLY < <(compgen -W '-e --edition --hidden --follow --exclude --cfg --host-cfg --skip --docs --show --no-bodies -L --files-from -h --help' -- "$word") ;;
         serve) mapfile -t COMPREPLY < <(compgen -W '-h --help' -- "$word") ;;
-        lsp) mapfile -t COMPREPLY < <(compgen -W '-e --edition --cfg --host-cfg --stdio -h --help' -- "$word") ;;
+        lsp) mapfile -t COMPREPLY < <(compgen -W '-e --edition --cfg --host-cfg -h --help' -- "$word") ;;
         check) mapfile -t COMPREPLY < <(compgen -W '-e --edition --cfg --host-cfg --hidden --follow --exclude --color -q --quiet -L --files-from --crate --features --all-features --no-default-features -h --help' -- "$word") ;;
     esac
 }

@@ -5,12 +5,10 @@ use Rattle.std.specs.declared.alloc.Global.{Global}
 use Rattle.toml.specs.{Data.Members, View.table_view}
 use Rattle.toml.specs.declared.value.Value.{Value}
 use Rattle.cargo_manifest.specs.declared.dependencies.Section.{Section}
-use Rattle.cargo_manifest.specs.declared.package_fields.{Fields.Fields, Finds.Finds}
-use Rattle.cargo_manifest.specs.declared.targets.{Declared.Declared, TargetFields.TargetFields as FieldsRead}
+use Rattle.cargo_manifest.specs.declared.package_fields.Fields.{Fields}
 use Rattle.cargo_manifest.specs.Dependencies.{SectionPlace}
 use Rattle.cargo_manifest.specs.Features.{FeatureNode, is_text_among}
-use Rattle.cargo_manifest.specs.Targets.{DeclaredTargets, FindFlags, PackageFields, TargetFields}
-use Rattle.cargo_manifest.specs.Views.{targets_view, texts_view}
+use Rattle.cargo_manifest.specs.Roots.{PackageFields}
 use denote.Ref.{Bor}
 use Rattle.cargo_manifest.specs.declared.enabled.{Node.Node, Step.Step}
 use Rattle.cargo_manifest.specs.declared.enabled.FeatureError.{FeatureError}
@@ -65,22 +63,8 @@ workspace_view workspace = option_map (λ table. table_view table.now) workspace
 abbrev pub section_view : Section → SectionPlace
 section_view s = record { workspace = workspace_view s.workspace; kind = s.kind; target = option_copied s.target }
 
-abbrev pub find_flags_view : Finds → FindFlags
-find_flags_view f = record { library = f.library; binaries = f.binaries; tests = f.tests; examples = f.examples; benchmarks = f.benchmarks }
-
 abbrev pub package_fields_view : Fields → PackageFields
-package_fields_view p = record { name = p.name.now; edition = p.edition; finds = find_flags_view p.finds; build_path = option_copied p.build_path; build_flag = p.build_flag }
-
-abbrev pub target_fields_view : FieldsRead → TargetFields
-target_fields_view f = record { path = option_copied f.path; edition = f.edition; required_features = texts_view f.required_features }
-
-abbrev pub declared_targets_view : Declared → DeclaredTargets
-declared_targets_view d = record {
-  binaries = option_map targets_view d.binaries;
-  tests = option_map targets_view d.tests;
-  examples = option_map targets_view d.examples;
-  benchmarks = option_map targets_view d.benchmarks;
-}
+package_fields_view p = record { name = p.name.now; edition = p.edition; autolib = p.autolib; autobins = p.autobins }
 
 -- ---- which features are enabled
 

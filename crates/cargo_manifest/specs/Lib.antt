@@ -4,6 +4,5 @@ pub mod Inner
 pub mod Laws
 pub mod Manifests
 pub mod Readings
-pub mod Targets
+pub mod Roots
 pub mod Views
-pub mod Workspaces

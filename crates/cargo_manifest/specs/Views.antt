@@ -5,13 +5,11 @@ use Rattle.cargo_manifest.specs.declared.dependencies.Dependency.{Dependency}
 use Rattle.cargo_manifest.specs.declared.enabled.FeatureChoice.{FeatureChoice}
 use Rattle.cargo_manifest.specs.declared.features.Feature.{Feature}
 use Rattle.cargo_manifest.specs.declared.manifest.Manifest.{Manifest}
-use Rattle.cargo_manifest.specs.declared.targets.Target.{Target}
-use Rattle.cargo_manifest.specs.declared.workspaces.{Members.Members, Workspace.Workspace}
+use Rattle.cargo_manifest.specs.declared.roots.Root.{Root}
 use Rattle.cargo_manifest.specs.Dependencies.{KnownCrate}
 use Rattle.cargo_manifest.specs.Features.{FeatureEntries, AskedFeatures}
 use Rattle.cargo_manifest.specs.Manifests.{ManifestFacts}
-use Rattle.cargo_manifest.specs.Targets.{TargetFacts}
-use Rattle.cargo_manifest.specs.Workspaces.{MemberFacts, WorkspaceFacts}
+use Rattle.cargo_manifest.specs.Roots.{RootFile}
 
 -- the texts of strings
 abbrev pub texts_view : Vec (String Global) Global → List (List ℕ)
@@ -30,18 +28,11 @@ dependency_view d = record {
 abbrev pub feature_view : Feature → FeatureEntries
 feature_view f = record { name = string_bytes f.name; entries = texts_view f.entries }
 
-abbrev pub target_facts_view : Target → TargetFacts
-target_facts_view t = record {
-  kind = t.kind;
-  name = string_bytes t.name;
-  paths = texts_view t.paths;
-  is_declared = t.is_declared;
-  edition = t.edition;
-  required_features = texts_view t.required_features;
-}
+abbrev pub root_view : Root → RootFile
+root_view r = record { kind = r.kind; name = string_bytes r.name; paths = texts_view r.paths; is_declared = r.is_declared }
 
-abbrev pub targets_view : Vec Target Global → List TargetFacts
-targets_view v = map target_facts_view v.items
+abbrev pub roots_view : Vec Root Global → List RootFile
+roots_view v = map root_view v.items
 
 abbrev pub asked_features_view : FeatureChoice → AskedFeatures
 asked_features_view c = record { all = c.all; no_default = c.no_default; named = map (λ name. name.now) c.named.now }
@@ -50,14 +41,8 @@ abbrev pub manifest_view : Manifest → ManifestFacts
 manifest_view m = record {
   name = string_bytes m.name;
   edition = m.edition;
-  targets = map target_facts_view m.targets.items;
-  found_kinds = m.found_kinds;
+  roots = map root_view m.roots.items;
+  lists_bin_folder = m.lists_bin_folder;
   features = map feature_view m.features.items;
   dependencies = map dependency_view m.dependencies.items;
 }
-
-abbrev pub members_view : Members → MemberFacts
-members_view m = record { members = texts_view m.members; exclude = texts_view m.exclude }
-
-abbrev pub workspace_facts_view : Workspace → WorkspaceFacts
-workspace_facts_view w = record { lists = option_map members_view w.lists; has_package = w.has_package; root = option_map string_bytes w.root }

@@ -128,7 +128,7 @@ fn nodes<'a>(
     Ok(nodes)
 }
 
-pub(crate) fn is_among(texts: &[&str], text: &str) -> bool
+fn is_among(texts: &[&str], text: &str) -> bool
     ensures { result ≡ spec.is_text_among (map (λ t. t.now) texts.now) text.now }
 {
     texts.iter().any(|one| *one == text)

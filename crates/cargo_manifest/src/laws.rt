@@ -4,7 +4,7 @@ ghost use Rattle.cargo_manifest.specs.Laws.{ClosesInTime};
 
 use crate::dependencies::DependencyKind;
 use crate::error::Expected;
-use crate::targets::{FoundKinds, TargetKind};
+use crate::roots::RootKind;
 
 // As many steps as there are features enable all that any number of steps does.
 #[tactic(auto, using(crate::proofs::Settling::closes_in_time))]
@@ -16,14 +16,12 @@ fn features_close()
 fn equal_values()
     ensures kinds { DecidesEq ⟦<DependencyKind as PartialEq>⟧.eq }
     ensures expected { DecidesEq ⟦<Expected as PartialEq>⟧.eq }
-    ensures found { DecidesEq ⟦<FoundKinds as PartialEq>⟧.eq }
-    ensures targets { DecidesEq ⟦<TargetKind as PartialEq>⟧.eq }
+    ensures roots { DecidesEq ⟦<RootKind as PartialEq>⟧.eq }
 {}
 
 // A copy is its source.
 fn copies()
     ensures kinds { IsCopied ⟦<DependencyKind as Clone>⟧.is_clone }
     ensures expected { IsCopied ⟦<Expected as Clone>⟧.is_clone }
-    ensures found { IsCopied ⟦<FoundKinds as Clone>⟧.is_clone }
-    ensures targets { IsCopied ⟦<TargetKind as Clone>⟧.is_clone }
+    ensures roots { IsCopied ⟦<RootKind as Clone>⟧.is_clone }
 {}

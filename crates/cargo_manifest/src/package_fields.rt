@@ -1,11 +1,10 @@
-//! What `[package]` has for targets.
-ghost use Rattle.std.specs.Prelude.{◌≡◌, codes, option_and_then, option_copied};
+//! What `[package]` tells of roots.
+ghost use Rattle.std.specs.Prelude.{◌≡◌, codes, option_and_then};
 ghost use Rattle.toml.specs.Data.{as_bool, as_str, as_table, get_member};
 ghost use Rattle.toml.specs.View.{table_view, view};
-ghost use Rattle.cargo_manifest.specs.Inner.{ReadsAs, find_flags_view, package_fields_view, workspace_view};
+ghost use Rattle.cargo_manifest.specs.Inner.{ReadsAs, package_fields_view, workspace_view};
 ghost use Rattle.cargo_manifest.specs.Manifests.{package_value};
-ghost use Rattle.cargo_manifest.specs.Readings.{value_read};
-ghost use Rattle.cargo_manifest.specs.Targets as spec;
+ghost use Rattle.cargo_manifest.specs.Roots as spec;
 
 use crate::error::{Expected, ManifestError, in_key};
 use crate::read::{flag_at, member, misfit, required_text, table_of, workspace_value};
@@ -13,23 +12,12 @@ use hir_input::EditionYear;
 use std::alloc::Global;
 use toml::{Table, Value};
 
-// Whether targets are found that are not declared, where it is said.
-#[derive(Clone, Copy)]
-pub(crate) struct Finds {
-    pub(crate) library: Option<bool>,
-    pub(crate) binaries: Option<bool>,
-    pub(crate) tests: Option<bool>,
-    pub(crate) examples: Option<bool>,
-    pub(crate) benchmarks: Option<bool>,
-}
-
 #[derive(Clone, Copy)]
 pub(crate) struct Fields<'a> {
     pub(crate) name: &'a str,
     pub(crate) edition: Option<EditionYear>,
-    pub(crate) finds: Finds,
-    pub(crate) build_path: Option<&'a str>,
-    pub(crate) build_flag: Option<bool>,
+    pub(crate) autolib: Option<bool>,
+    pub(crate) autobins: Option<bool>,
 }
 
 fn edition_of(text: &str) -> Option<EditionYear>
@@ -107,59 +95,7 @@ fn edition_field(
     }
 }
 
-fn year_of(alloc: Global, value: &Value) -> Result<EditionYear, ManifestError>
-    ensures { ReadsAs (λ year. year) result (spec.year_value (view value.now)) }
-{
-    match value.as_str() {
-        Some(text) => edition_of(text).ok_or_else(|| misfit(alloc, Expected::Edition)),
-        None => Err(misfit(alloc, Expected::Edition)),
-    }
-}
-
-// The edition at a key, if anything stands there.
-pub(crate) fn year_at(
-    alloc: Global,
-    table: &Table,
-    key: &str,
-) -> Result<Option<EditionYear>, ManifestError>
-    ensures { ReadsAs (λ year. year) result (value_read key.now spec.year_value (table_view table.now)) }
-{
-    match member(table, key) {
-        Some(value) => Ok(Some(in_key(alloc, key, year_of(alloc, value))?)),
-        None => Ok(None),
-    }
-}
-
-fn finds_of(alloc: Global, table: &Table) -> Result<Finds, ManifestError>
-    ensures { ReadsAs find_flags_view result (spec.find_flags (table_view table.now)) }
-{
-    let library = flag_at(alloc, table, "autolib")?;
-    let binaries = flag_at(alloc, table, "autobins")?;
-    let tests = flag_at(alloc, table, "autotests")?;
-    let examples = flag_at(alloc, table, "autoexamples")?;
-    let benchmarks = flag_at(alloc, table, "autobenches")?;
-    Ok(Finds {
-        library,
-        binaries,
-        tests,
-        examples,
-        benchmarks,
-    })
-}
-
-fn build_path<'a>(table: &'a Table) -> Option<&'a str>
-    ensures { option_copied result ≡ spec.build_path (table_view table.now) }
-{
-    member(table, "build")?.as_str()
-}
-
-fn build_flag(table: &Table) -> Option<bool>
-    ensures { result ≡ spec.build_flag (table_view table.now) }
-{
-    member(table, "build")?.as_bool()
-}
-
-// What the value of `package` has.
+// What the value of `package` tells.
 pub(crate) fn fields_of<'a>(
     alloc: Global,
     workspace: Option<&Table>,
@@ -170,12 +106,12 @@ pub(crate) fn fields_of<'a>(
     let table = table_of(alloc, value)?;
     let name = required_text(alloc, table, "name")?;
     let edition = edition_field(alloc, workspace, table)?;
-    let finds = finds_of(alloc, table)?;
+    let autolib = flag_at(alloc, table, "autolib")?;
+    let autobins = flag_at(alloc, table, "autobins")?;
     Ok(Fields {
         name,
         edition,
-        finds,
-        build_path: build_path(table),
-        build_flag: build_flag(table),
+        autolib,
+        autobins,
     })
 }

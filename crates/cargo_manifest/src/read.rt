@@ -139,20 +139,6 @@ pub(crate) fn texts_of(alloc: Global, value: &Value) -> Result<Vec<String>, Mani
     Ok(texts)
 }
 
-// The texts of the list at a key, if anything stands there.
-pub(crate) fn texts_at(
-    alloc: Global,
-    table: &Table,
-    key: &str,
-) -> Result<Option<Vec<String>>, ManifestError>
-    ensures { ReadsAs (option_map texts_view) result (value_read key.now texts_value (table_view table.now)) }
-{
-    match member(table, key) {
-        Some(value) => Ok(Some(in_key(alloc, key, texts_of(alloc, value))?)),
-        None => Ok(None),
-    }
-}
-
 // What the workspace has at a key, if its table is given.
 pub(crate) fn workspace_value<'w>(workspace: Option<&'w Table>, key: &str) -> Option<&'w Value>
     ensures { option_map (λ v. view v.now) result ≡ workspace_form (workspace_view workspace.entry) key.now }

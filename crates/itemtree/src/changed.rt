@@ -4,7 +4,7 @@ use crate::escapes::Shown;
 use crate::failure::Failure;
 use crate::files::{Room, STDIN, is_a_folder};
 use crate::report::Report;
-use crate::walk::{Found, files_of_folder, refuse_absolute, with_slash};
+use crate::walk::{Found, files_of_folder, with_slash};
 use itemtree_commands::{CompareError, Options, compare_trees};
 use itemtree_options::Asked;
 use list_forms::Form;
@@ -13,7 +13,6 @@ use source_listing::Source;
 use std::alloc::{AllocError, Global};
 use std::collections::BTreeMap;
 use std::fmt::Display;
-use std::fs;
 
 /// How files differ whose items are the same.
 const ONLY_ORDER: &str = "the order of items or the attributes of the file differ";
@@ -27,7 +26,7 @@ const ONLY_IN_TREES: &str =
 pub(crate) struct Counting {
     /// Whether nothing is told where the item trees are equal.
     pub(crate) is_of_trees: bool,
-    /// Whether only what is public counts.
+    /// Whether only what is seen outside of its module counts.
     pub(crate) is_public: bool,
 }
 
@@ -161,38 +160,10 @@ impl Comparison<'_> {
         Ok(Side { top, found })
     }
 
-    /// Complains of the links that were left out of a folder, where the other has files.
-    fn complain_of_links(&mut self, side: &Side, other: &Side) -> Result<(), AllocError> {
-        for link in &side.found.links {
-            if other.has_files(self.report.rt.alloc(), side.path_below(link))? {
-                let reason = "not compared with the files that the other folder has here";
-                self.report.complain(Shown(link), reason);
-            }
-        }
-        Ok(())
-    }
-
-    /// A folder cannot be compared with what is none, or is not there.
-    fn refuse_none(&mut self, folder: &str, other: &str) -> Result<(), Failure> {
-        let rt = self.report.rt;
-        match fs::metadata(rt, other) {
-            Err(error) if other != STDIN => {
-                self.report.complain(Shown(other), error);
-                Ok(())
-            }
-            _ => Err(no_folder(rt.alloc(), folder, other)?),
-        }
-    }
-
     fn compare_folders(&mut self, old: &str, new: &str, asked: &Asked<'_>) -> Result<(), Failure> {
         let alloc = self.report.rt.alloc();
         let (olds, news) = (self.side(old, asked)?, self.side(new, asked)?);
-        self.complain_of_links(&olds, &news)?;
-        self.complain_of_links(&news, &olds)?;
         let pairs = pairs(alloc, &olds, &news)?;
-        if pairs.is_empty() {
-            self.report.fail();
-        }
         let (mut old_room, mut new_room) = (Room::new(alloc), Room::new(alloc));
         for (before, (below, pair)) in pairs.iter().enumerate() {
             match *pair {
@@ -221,48 +192,28 @@ struct Side {
     found: Found,
 }
 
+/// Whether a path is another, or leads below it.
+fn is_at_or_below(path: &str, other: &str) -> bool {
+    let Some(rest) = path.strip_prefix(other) else {
+        return false;
+    };
+    rest.is_empty() || rest.starts_with("/")
+}
+
 impl Side {
     fn path_below<'a>(&self, file: &'a str) -> &'a str {
         file.strip_prefix(self.top.as_str()).unwrap_or(file)
-    }
-
-    /// Whether there is a file at this path in the folder, or below it.
-    fn has_files(&self, alloc: Global, below: &str) -> Result<bool, AllocError> {
-        let (top, files) = (&self.top, &self.found.files);
-        let path = format!(in alloc; "{top}{below}")?;
-        let folder = with_slash(alloc, &path)?;
-        let at = files.partition_point(|file| file.as_str() < path.as_str());
-        let behind = files.partition_point(|file| file.as_str() < folder.as_str());
-        let is_file = files.get(at).is_some_and(|file| *file == path);
-        Ok(
-            is_file
-                || files
-                    .get(behind)
-                    .is_some_and(|file| file.starts_with(folder.as_str())),
-        )
-    }
-
-    /// Whether what stands at a path was not read or was left out.
-    fn is_unread(&self, path: &str) -> bool {
-        let Found { faults, links, .. } = &self.found;
-        let at = faults.partition_point(|fault| fault.path.as_str() < path);
-        let is_fault = faults
-            .get(at)
-            .is_some_and(|fault| fault.path.as_str() == path);
-        is_fault
-            || links
-                .binary_search_by(|link| link.as_str().cmp(path))
-                .is_ok()
     }
 
     /// Whether a file may stand at this path in the folder, where something could not be read or was left out.
     fn may_have(&self, alloc: Global, below: &str) -> Result<bool, AllocError> {
         let top = &self.top;
         let path = format!(in alloc; "{top}{below}")?;
-        let is_unread = |(at, _): (usize, &str)| path
-            .get(..at)
-            .is_some_and(|front| self.is_unread(front));
-        Ok(self.is_unread(&path) || path.match_indices("/").any(is_unread))
+        let is_unread = |unread: &str| is_at_or_below(&path, unread);
+        Ok(
+            self.found.faults.iter().any(|fault| is_unread(&fault.path))
+                || self.found.links.iter().any(|link| is_unread(link)),
+        )
     }
 }
 
@@ -323,7 +274,6 @@ pub(crate) fn compare(
 ) -> Result<u8, Failure> {
     let alloc = rt.alloc();
     refuse_wrong(alloc, old, new)?;
-    refuse_absolute(rt, asked, old.starts_with("/") || new.starts_with("/"))?;
     let mut comparison = Comparison {
         report: Report::new(rt, asked),
         options,
@@ -336,8 +286,8 @@ pub(crate) fn compare(
             comparison.compare_files(old, new, &mut old_room, &mut new_room)
         }
         (true, true) => comparison.compare_folders(old, new, asked),
-        (true, false) => comparison.refuse_none(old, new),
-        (false, true) => comparison.refuse_none(new, old),
+        (true, false) => Err(no_folder(alloc, old, new)?),
+        (false, true) => Err(no_folder(alloc, new, old)?),
     };
     or_closed(done, comparison.report.status)
 }

@@ -1,11 +1,11 @@
 //! The commands, file by file.
 use crate::crate_commands::{CratesFound, crates_found};
-use crate::crate_roots::Crates;
 use crate::escapes::Shown;
 use crate::failure::Failure;
 use crate::files::{Room, STDIN};
 use crate::hints::better_edition;
 use crate::output::complain;
+use crate::packages::Crates;
 use crate::report::Report;
 use crate::sources::files_of;
 use crate::tag_form::form_of;
@@ -182,22 +182,15 @@ impl Run<'_> {
         let rt = self.report.rt;
         if let Some(crates) = self.crates {
             let wants_imports = matches!(self.asked.command, Command::Check);
-            return crates_found(&mut self.report, crates, wants_imports);
+            return crates_found(&mut self.report, self.options, crates, wants_imports);
         }
         let found = files_of(rt, self.asked)?;
         self.report.complain_of(&found.faults);
-        let mut all = CratesFound::new(rt.alloc());
-        all.files = found.files;
-        Ok(all)
-    }
-
-    /// Takes the options of the crate that a file is of.
-    fn take_options(&mut self, root: Option<&usize>) {
-        if let (Some(crates), Some(root)) = (self.crates, root) {
-            if let Some(root) = crates.roots.get(*root) {
-                self.options = &root.options;
-            }
-        }
+        Ok(CratesFound {
+            files: found.files,
+            unresolved: String::new(rt.alloc()),
+            imports: String::new(rt.alloc()),
+        })
     }
 
     /// Tells what is wrong with modules, and with imports if nothing is wrong with the files: what is missing there may
@@ -216,7 +209,6 @@ impl Run<'_> {
         let found = self.sources()?;
         let mut room = Room::new(self.report.rt.alloc());
         for (before, file) in found.files.iter().enumerate() {
-            self.take_options(found.roots.get(before));
             if let Some(text) = self.report.read(file, &mut room) {
                 self.do_text(file, text)?;
             }
@@ -297,8 +289,6 @@ fn finish(run: Run<'_>) -> Result<u8, Failure> {
             finish_tags(rt, file, tags, status, has_done)
         }
         Command::Find { .. } if !report.has_written => Ok(status.max(NOT_SO)),
-        // (that there is nothing was told where it was looked for)
-        Command::Check if !has_done => Ok(FAILED),
         _ => Ok(status),
     }
 }

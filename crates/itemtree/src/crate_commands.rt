@@ -1,73 +1,34 @@
 //! What commands are told of crates: their files, and their modules.
 use crate::commands::or_closed;
-use crate::crate_roots::{CrateRoot, Crates};
 use crate::crate_sources::CrateSources;
 use crate::escapes::Shown;
 use crate::failure::Failure;
+use crate::packages::Crates;
 use crate::report::Report;
+use crate::walk::files_of_folder;
 use def_map::{DefMapError, Manifest};
-use hir_input::EditionYear;
 use itemtree_commands::{
-    ImportLook, Options, check, declared_items, modules, resolved_imports, unresolved_modules,
-    wrong_imports,
+    CrateFile, ImportLook, Options, check, declared_items, modules, resolved_imports,
+    unresolved_modules, wrong_imports,
 };
 use itemtree_options::Asked;
 use module_tree::{ModuleChoice, ModuleTree};
 use source_listing::Source;
 use std::alloc::{AllocError, Global};
-use std::collections::BTreeSet;
 
-/// Why no import of a crate is checked.
-const UNCHECKED: &str =
-    "the imports of this crate are not checked: an item tree does not keep the :: of use ::{..}";
-
-/// Why no import of a crate is resolved.
-const UNRESOLVED: &str =
-    "the imports of this crate are not resolved: an item tree does not keep the :: of use ::{..}";
-
-/// A crate, read.
-#[derive(Drop)]
-struct ReadCrate<'a> {
-    root: &'a CrateRoot,
-    sources: CrateSources<'a>,
-    /// Its modules, if they can be told: one tree or none.
-    trees: Vec<ModuleTree>,
-}
-
-/// Reads each crate.
-fn read_crates<'a>(
-    rt: &'a HostRuntime,
-    crates: &'a Crates,
-    choice: ModuleChoice,
-) -> Result<Vec<ReadCrate<'a>>, Failure> {
-    let mut read = Vec::new(rt.alloc());
-    for root in &crates.roots {
-        let mut sources = CrateSources::new(rt, &root.options, choice, &root.facts.features);
-        let mut trees = Vec::new(rt.alloc());
-        if let Some(tree) = sources.modules(&root.path)? {
+/// The modules of each crate.
+fn trees_of(
+    sources: &mut CrateSources<'_>,
+    alloc: Global,
+    roots: &[String],
+) -> Result<Vec<ModuleTree>, Failure> {
+    let mut trees = Vec::new(alloc);
+    for root in roots {
+        if let Some(tree) = sources.modules(root)? {
             trees.push(tree).map_err(AllocError::from)?;
         }
-        let one = ReadCrate {
-            root,
-            sources,
-            trees,
-        };
-        read.push(one).map_err(AllocError::from)?;
     }
-    Ok(read)
-}
-
-/// Tells what could not be read of crates, each file once.
-fn complain_of_all(report: &mut Report<'_>, read: &[ReadCrate<'_>]) -> Result<(), AllocError> {
-    let mut seen = BTreeSet::new(report.rt.alloc());
-    for one in read {
-        for fault in one.sources.faults() {
-            if seen.insert(fault.path.clone()?)? {
-                report.complain(Shown(&fault.path), fault.reason.as_str());
-            }
-        }
-    }
-    Ok(())
+    Ok(trees)
 }
 
 /// The lines of the modules of crates that have no file.
@@ -95,11 +56,10 @@ fn wrong_imports_in(
 ) -> Result<String, Failure> {
     let (alloc, is_colored) = (report.rt.alloc(), report.is_colored());
     let mut lines = String::new(alloc);
+    if !sources.tells_paths() {
+        return Ok(lines);
+    }
     for tree in trees {
-        if let Some(file) = sources.lacks_paths(tree) {
-            report.note(Shown(file.path()), UNCHECKED);
-            continue;
-        }
         match sources.resolved_imports(tree, manifest) {
             Ok(imports) => {
                 let files = sources.files();
@@ -117,143 +77,87 @@ fn wrong_imports_in(
 pub(crate) struct CratesFound {
     /// Their files, in the order of their modules.
     pub(crate) files: Vec<String>,
-    /// For each file the place of the crate that it is of.
-    pub(crate) roots: Vec<usize>,
     /// The lines of the modules that have no file.
     pub(crate) unresolved: String,
     /// The lines of the imports that are wrong, if these are asked for.
     pub(crate) imports: String,
 }
 
-impl CratesFound {
-    pub(crate) fn new(alloc: Global) -> CratesFound {
-        CratesFound {
-            files: Vec::new(alloc),
-            roots: Vec::new(alloc),
-            unresolved: String::new(alloc),
-            imports: String::new(alloc),
-        }
+fn paths_of(alloc: Global, files: &[&CrateFile]) -> Result<Vec<String>, AllocError> {
+    let mut paths = Vec::new(alloc);
+    for file in files {
+        paths.push(String::from_str(alloc, file.path())?)?;
     }
-}
-
-/// Which files were found, by their paths, and by their editions where these matter.
-#[derive(Drop)]
-struct SeenFiles {
-    has_years: bool,
-    files: BTreeSet<(u8, String)>,
-}
-
-impl SeenFiles {
-    fn is_first(
-        &mut self,
-        alloc: Global,
-        root: &CrateRoot,
-        path: &str,
-    ) -> Result<bool, AllocError> {
-        let year = match root.year {
-            _ if !self.has_years => 0,
-            EditionYear::E2015 => 15,
-            EditionYear::E2018 => 18,
-            EditionYear::E2021 => 21,
-            EditionYear::E2024 => 24,
-        };
-        let path = String::from_str(alloc, path)?;
-        Ok(self.files.insert((year, path))?)
-    }
-}
-
-/// Adds the files of a crate that were not found before.
-fn push_found(
-    alloc: Global,
-    one: &ReadCrate<'_>,
-    place: usize,
-    seen: &mut SeenFiles,
-    found: &mut CratesFound,
-) -> Result<(), AllocError> {
-    for file in one.sources.files_of(&one.trees)? {
-        if seen.is_first(alloc, one.root, file.path())? {
-            found.files.push(String::from_str(alloc, file.path())?)?;
-            found.roots.push(place)?;
-        }
-    }
-    Ok(())
+    Ok(paths)
 }
 
 /// What is found of crates, with the imports that are wrong if these are wanted.
 pub(crate) fn crates_found(
     report: &mut Report<'_>,
+    options: &Options,
     crates: &Crates,
     wants_imports: bool,
 ) -> Result<CratesFound, Failure> {
     let alloc = report.rt.alloc();
-    let read = read_crates(report.rt, crates, ModuleChoice::Enabled)?;
-    complain_of_all(report, &read)?;
-    let mut found = CratesFound::new(alloc);
-    let mut seen = SeenFiles {
-        has_years: wants_imports,
-        files: BTreeSet::new(alloc),
+    let mut sources = CrateSources::new(report.rt, options, ModuleChoice::Enabled);
+    let trees = trees_of(&mut sources, alloc, &crates.roots)?;
+    report.complain_of(sources.faults());
+    let files = paths_of(alloc, &sources.files_of(&trees)?)?;
+    let unresolved = unresolved_in(&sources, alloc, options, &trees, report.is_colored())?;
+    let imports = if wants_imports {
+        wrong_imports_in(report, &sources, &crates.facts, &trees)?
+    } else {
+        String::new(alloc)
     };
-    for (place, one) in read.iter().enumerate() {
-        push_found(alloc, one, place, &mut seen, &mut found)?;
-        let (options, is_colored) = (&one.root.options, report.is_colored());
-        let unresolved = unresolved_in(&one.sources, alloc, options, &one.trees, is_colored)?;
-        found.unresolved.push_str(&unresolved)?;
-        if wants_imports {
-            let imports = wrong_imports_in(report, &one.sources, &one.root.facts, &one.trees)?;
-            found.imports.push_str(&imports)?;
-        }
-    }
-    Ok(found)
+    Ok(CratesFound {
+        files,
+        unresolved,
+        imports,
+    })
 }
 
 /// The lines of what is wrong with the files of crates.
-fn damage_in(report: &mut Report<'_>, read: &[ReadCrate<'_>]) -> Result<String, Failure> {
+fn damage_in(
+    report: &mut Report<'_>,
+    sources: &CrateSources<'_>,
+    options: &Options,
+    trees: &[ModuleTree],
+) -> Result<String, Failure> {
     let alloc = report.rt.alloc();
     let mut lines = String::new(alloc);
-    let mut seen = SeenFiles {
-        has_years: true,
-        files: BTreeSet::new(alloc),
-    };
-    for one in read {
-        for file in one.sources.files_of(&one.trees)? {
-            if !seen.is_first(alloc, one.root, file.path())? {
-                continue;
-            }
-            let path = report.path_of(file.path())?;
-            let source = Source {
-                path: path.as_str(),
-                text: file.text(),
-            };
-            match check(alloc, source, &one.root.options, false) {
-                Ok(checked) => lines.push_str(&checked.text)?,
-                Err(error) => report.complain(Shown(file.path()), error),
-            }
+    for file in sources.files_of(trees)? {
+        let path = report.path_of(file.path())?;
+        let source = Source {
+            path: path.as_str(),
+            text: file.text(),
+        };
+        match check(alloc, source, options, false) {
+            Ok(checked) => lines.push_str(&checked.text)?,
+            Err(error) => report.complain(Shown(file.path()), error),
         }
     }
     Ok(lines)
 }
 
-/// Writes what the imports of a crate lead to.
+/// Writes what the imports of crates lead to.
 fn write_resolved(
     report: &mut Report<'_>,
-    one: &ReadCrate<'_>,
+    sources: &CrateSources<'_>,
+    options: &Options,
+    crates: &Crates,
+    trees: &[ModuleTree],
     look: ImportLook,
 ) -> Result<(), Failure> {
     let alloc = report.rt.alloc();
-    let ReadCrate {
-        root,
-        sources,
-        trees,
-    } = one;
+    if !sources.tells_paths() {
+        report.complain("imports", "not resolved, because a use begins with ::{");
+        return Ok(());
+    }
     let files = declared_items(alloc, sources.files())?;
     for tree in trees {
-        if let Some(file) = sources.lacks_paths(tree) {
-            report.complain(Shown(file.path()), UNRESOLVED);
-            continue;
-        }
-        match sources.resolved_imports(tree, &root.facts) {
+        match sources.resolved_imports(tree, &crates.facts) {
             Ok(imports) => {
-                let edition = &root.options.edition;
+                let edition = &options.edition;
                 let text = resolved_imports(alloc, &imports, tree, &files, edition, look)?;
                 if look.only_wrong && !text.is_empty() {
                     report.write_wrong(&text)?;
@@ -268,29 +172,20 @@ fn write_resolved(
     Ok(())
 }
 
-fn write_all_resolved(
-    report: &mut Report<'_>,
-    read: &[ReadCrate<'_>],
-    look: ImportLook,
-) -> Result<(), Failure> {
-    for one in read {
-        write_resolved(report, one, look)?;
-    }
-    Ok(())
-}
-
 /// `itemtree imports --resolve`: lists what the imports of crates lead to, and gives the status to end with. What is
 /// wrong with the files is told on standard error; then nothing is wrong with an import.
 pub(crate) fn list_resolved(
     rt: &HostRuntime,
+    options: &Options,
     asked: &Asked<'_>,
     crates: &Crates,
     only_wrong: bool,
 ) -> Result<u8, Failure> {
     let mut report = Report::new(rt, asked);
-    let read = read_crates(rt, crates, ModuleChoice::Enabled)?;
-    complain_of_all(&mut report, &read)?;
-    let damage = damage_in(&mut report, &read)?;
+    let mut sources = CrateSources::new(rt, options, ModuleChoice::Enabled);
+    let trees = trees_of(&mut sources, rt.alloc(), &crates.roots)?;
+    report.complain_of(sources.faults());
+    let damage = damage_in(&mut report, &sources, options, &trees)?;
     let look = ImportLook {
         form: report.form,
         only_wrong,
@@ -301,29 +196,67 @@ pub(crate) fn list_resolved(
     } else {
         report.tell(&damage);
     }
-    let done = write_all_resolved(&mut report, &read, look);
+    let done = write_resolved(&mut report, &sources, options, crates, &trees, look);
     or_closed(done, report.status)
+}
+
+/// Writes the files below the folder of a root file that were not read.
+fn write_orphans(
+    report: &mut Report<'_>,
+    sources: &CrateSources<'_>,
+    asked: &Asked<'_>,
+    root: &str,
+) -> Result<(), Failure> {
+    let folder = match root.rsplit_once('/') {
+        Some(("", _)) => "/",
+        Some((folder, _)) => folder,
+        None => ".",
+    };
+    let found = files_of_folder(report.rt, folder, asked)?;
+    report.complain_of(&found.faults);
+    for file in found.files {
+        if !sources.has_read(&file) {
+            let shown = Shown(file.strip_prefix("./").unwrap_or(&file));
+            let line = format!(in report.rt.alloc(); "{shown}\n")?;
+            report.write_wrong(&line)?;
+        }
+    }
+    Ok(())
 }
 
 /// `itemtree modules`: lists the modules of crates, and gives the status to end with.
 pub(crate) fn list_modules(
     rt: &HostRuntime,
+    options: &Options,
     asked: &Asked<'_>,
-    crates: &Crates,
+    roots: &[String],
 ) -> Result<u8, Failure> {
     let alloc = rt.alloc();
     let mut report = Report::new(rt, asked);
-    let read = read_crates(rt, crates, ModuleChoice::Enabled)?;
-    for one in &read {
-        for tree in &one.trees {
-            let (form, edition) = (report.form, &one.root.options.edition);
-            report.write(&modules(alloc, tree, one.sources.files(), edition, form)?)?;
-        }
+    let mut sources = CrateSources::new(rt, options, ModuleChoice::Enabled);
+    let trees = trees_of(&mut sources, alloc, roots)?;
+    for tree in &trees {
+        let form = report.form;
+        report.write(&modules(alloc, tree, sources.files(), &options.edition, form)?)?;
     }
-    for one in &read {
-        let options = &one.root.options;
-        report.tell_wrong(&unresolved_in(&one.sources, alloc, options, &one.trees, false)?);
+    report.tell_wrong(&unresolved_in(&sources, alloc, options, &trees, false)?);
+    report.complain_of(sources.faults());
+    Ok(report.status)
+}
+
+/// `itemtree modules --orphans`: lists the files that no `mod` names, and gives the status to end with.
+pub(crate) fn list_orphans(
+    rt: &HostRuntime,
+    options: &Options,
+    asked: &Asked<'_>,
+    roots: &[String],
+) -> Result<u8, Failure> {
+    let mut report = Report::new(rt, asked);
+    let mut sources = CrateSources::new(rt, options, ModuleChoice::All);
+    let _trees = trees_of(&mut sources, rt.alloc(), roots)?;
+    for root in roots {
+        write_orphans(&mut report, &sources, asked, root)?;
     }
-    complain_of_all(&mut report, &read)?;
+    report.complain_of(sources.faults());
     Ok(report.status)
 }

@@ -1,7 +1,6 @@
 //! The files of a crate, as its `mod` items lead to them from the root file on.
 use crate::failure::Failure;
 use crate::files::Room;
-use crate::sure_modules::sure_modules;
 use crate::walk::{Fault, Found};
 use def_map::{DefMapError, Manifest, ResolvedImport, resolve_imports};
 use item_tree::ItemTree;
@@ -11,7 +10,10 @@ use std::alloc::{AllocError, Global};
 use std::collections::{BTreeMap, BTreeSet};
 use std::fs;
 use std::fs::Metadata;
-use std::os::unix::fs::{FileTypeExt, MetadataExt};
+use std::os::unix::fs::MetadataExt;
+
+/// The attribute by which a macro is known outside of its module.
+const EXPORT_WORD: &str = "macro_export";
 
 /// The lint that forbids to name macros by paths that other macros make, and its group.
 const EXPANDED_WORDS: [&str; 2] = [
@@ -26,19 +28,36 @@ fn id_of(found: &Metadata) -> FileId {
     (found.dev(), found.ino())
 }
 
-/// A file that is empty and takes what is written to it.
-const NULL_DEVICE: &str = "/dev/null";
+/// Whether a text behind the word `mod` goes on as a module does.
+fn is_module(rest: &str) -> bool {
+    let name = rest.trim_start();
+    let behind = name.trim_start_matches(|c: char| c == '_' || c == '#' || c.is_alphanumeric());
+    name.len() < rest.len()
+        && behind.len() < name.len()
+        && behind.trim_start().starts_with(|c| c == ';' || c == '{')
+}
 
-/// Why other devices, pipes and sockets are not read: that may never end.
-const NO_TEXT: &str = "neither a regular file nor /dev/null";
-
-/// Whether reading a file ends: one that is regular, or the null device.
-fn ends(rt: &HostRuntime, found: &Metadata) -> bool {
-    if found.is_file() {
-        return true;
+/// How often a text exports a macro: as often as can be if it has a module in a body, whose file is not read.
+fn export_words(file: &CrateFile) -> u32 {
+    let modules = file
+        .text()
+        .split("mod")
+        .skip(1)
+        .filter(|rest| is_module(rest));
+    if modules.count() > file.tree().item_tree_stats().mods {
+        return u32::MAX;
     }
-    let same = fs::metadata(rt, NULL_DEVICE).is_ok_and(|null| null.rdev() == found.rdev());
-    same && found.file_type().is_char_device()
+    let count = file.text().split(EXPORT_WORD).skip(1).count();
+    u32::try_from(count).unwrap_or(u32::MAX)
+}
+
+/// Whether a text has a use whose list stands behind `::`, which its tree does not tell.
+fn has_global_list(text: &str) -> bool {
+    let mut uses = text.split("use").skip(1);
+    uses.any(|rest| {
+        let behind = rest.trim_start().strip_prefix("::").unwrap_or("");
+        behind.trim_start().starts_with('{')
+    })
 }
 
 /// Whether a text may allow to name macros by paths that other macros make.
@@ -53,14 +72,9 @@ pub(crate) struct CrateSources<'a> {
     options: &'a Options,
     /// Which `mod` items are followed.
     choice: ModuleChoice,
-    /// The features of the package.
-    features: &'a [String],
     paths: BTreeMap<String, KnownPath>,
-    /// The files by their numbers. A file has one for each of its paths.
+    numbers: BTreeMap<FileId, u32>,
     files: Vec<CrateFile>,
-    /// What these files are to the file system.
-    ids: Vec<FileId>,
-    read_ids: BTreeSet<FileId>,
     room: Room,
     /// What could not be read.
     faults: Found,
@@ -73,18 +87,15 @@ impl<'a> CrateSources<'a> {
         rt: &'a HostRuntime,
         options: &'a Options,
         choice: ModuleChoice,
-        features: &'a [String],
     ) -> CrateSources<'a> {
         let alloc = rt.alloc();
         CrateSources {
             rt,
             options,
             choice,
-            features,
             paths: BTreeMap::new(alloc),
+            numbers: BTreeMap::new(alloc),
             files: Vec::new(alloc),
-            ids: Vec::new(alloc),
-            read_ids: BTreeSet::new(alloc),
             room: Room::new(alloc),
             faults: Found::new(alloc),
             unread: BTreeSet::new(alloc),
@@ -103,24 +114,10 @@ impl<'a> CrateSources<'a> {
         }
     }
 
-    /// The same of a file that a `mod` means, if reading it ends.
-    fn text_of_module(&mut self, path: &str, found: &Metadata) -> Result<String, AllocError> {
-        if ends(self.rt, found) {
-            return self.text_of(path);
-        }
-        let alloc = self.rt.alloc();
-        self.faults.push_fault(alloc, path, NO_TEXT)?;
-        Ok(String::new(alloc))
-    }
-
     /// What is read of a file. One that has no tree is as an empty one.
-    fn read(&mut self, path: &str, found: &Metadata, is_root: bool) -> Result<CrateFile, Failure> {
+    fn read(&mut self, path: &str) -> Result<CrateFile, Failure> {
         let alloc = self.rt.alloc();
-        let text = if is_root {
-            self.text_of(path)?
-        } else {
-            self.text_of_module(path, found)?
-        };
+        let text = self.text_of(path)?;
         let error = match CrateFile::read(
             alloc,
             String::from_str(alloc, path)?,
@@ -139,42 +136,43 @@ impl<'a> CrateSources<'a> {
     }
 
     /// Reads a file, and gives its number.
-    fn push_file(&mut self, path: &str, found: &Metadata, is_root: bool) -> Result<u32, Failure> {
+    fn push_file(&mut self, path: &str) -> Result<u32, Failure> {
         let number = u32::try_from(self.files.len()).unwrap_or(u32::MAX);
         let before = self.faults.faults.len();
-        let file = self.read(path, found, is_root)?;
+        let file = self.read(path)?;
         self.files.push(file).map_err(AllocError::from)?;
-        self.ids.push(id_of(found)).map_err(AllocError::from)?;
-        self.read_ids
-            .insert(id_of(found))
-            .map_err(AllocError::from)?;
         if self.faults.faults.len() > before {
             self.unread.insert(number).map_err(AllocError::from)?;
         }
         Ok(number)
     }
 
-    /// What stands at a path: a folder is no file.
-    fn look_up(&mut self, path: &str) -> Result<KnownPath, Failure> {
-        match fs::metadata(self.rt, path) {
-            Ok(found) if !found.is_dir() => {
-                Ok(KnownPath::File(self.push_file(path, &found, false)?))
-            }
-            _ => Ok(KnownPath::Missing),
+    /// The number of a file, which is read once.
+    fn number_of(&mut self, path: &str, found: &Metadata) -> Result<u32, Failure> {
+        let id = id_of(found);
+        if let Some(number) = self.numbers.get(&id) {
+            return Ok(*number);
         }
+        let number = self.push_file(path)?;
+        self.numbers.insert(id, number).map_err(AllocError::from)?;
+        Ok(number)
     }
 
-    fn push_path(&mut self, path: &str, known: KnownPath) -> Result<(), AllocError> {
-        let path = String::from_str(self.rt.alloc(), path)?;
-        self.paths.insert(path, known).map_err(AllocError::from)?;
-        Ok(())
+    /// What stands at a path: a folder, a pipe and a device are no files.
+    fn look_up(&mut self, path: &str) -> Result<KnownPath, Failure> {
+        match fs::metadata(self.rt, path) {
+            Ok(found) if found.is_file() => Ok(KnownPath::File(self.number_of(path, &found)?)),
+            _ => Ok(KnownPath::Missing),
+        }
     }
 
     fn look_up_all(&mut self, wanted: &[String]) -> Result<(), Failure> {
         for path in wanted {
             if !self.paths.contains_key(path.as_str()) {
                 let known = self.look_up(path)?;
-                self.push_path(path, known)?;
+                self.paths
+                    .insert(path.clone()?, known)
+                    .map_err(AllocError::from)?;
             }
         }
         Ok(())
@@ -202,15 +200,8 @@ impl<'a> CrateSources<'a> {
 
     /// The number of the root file of a crate, if it can be looked at.
     fn root(&mut self, path: &str) -> Result<Option<u32>, Failure> {
-        if let Some(KnownPath::File(number)) = self.paths.get(path) {
-            return Ok(Some(*number));
-        }
         match fs::metadata(self.rt, path) {
-            Ok(found) => {
-                let number = self.push_file(path, &found, true)?;
-                self.push_path(path, KnownPath::File(number))?;
-                Ok(Some(number))
-            }
+            Ok(found) => Ok(Some(self.number_of(path, &found)?)),
             Err(error) => {
                 self.faults.push_fault(self.rt.alloc(), path, error)?;
                 Ok(None)
@@ -232,7 +223,6 @@ impl<'a> CrateSources<'a> {
 
     /// The modules of the crate with this root file, if they can be told: what is wanted is looked up.
     pub(crate) fn modules(&mut self, path: &str) -> Result<Option<ModuleTree>, Failure> {
-        let alloc = self.rt.alloc();
         let Some(root) = self.root(path)? else {
             return Ok(None);
         };
@@ -242,8 +232,7 @@ impl<'a> CrateSources<'a> {
                 return Ok(None);
             };
             if tree.wanted.is_empty() {
-                let files = &self.files;
-                return Ok(Some(sure_modules(alloc, self.options, self.features, files, tree)?));
+                return Ok(Some(tree));
             }
             self.look_up_all(&tree.wanted)?;
             known = self.few_modules(root, path)?;
@@ -251,24 +240,18 @@ impl<'a> CrateSources<'a> {
         Ok(known)
     }
 
-    /// How often each file may export a macro.
+    /// How often the word stands in each file that makes a macro known outside of its module.
     fn export_words(&self) -> Result<Vec<u32>, AllocError> {
         let mut words = Vec::new(self.rt.alloc());
         for file in &self.files {
-            words.push(file.exports())?;
+            words.push(export_words(file))?;
         }
         Ok(words)
     }
 
-    /// The first file of a crate whose tree does not tell where the path of each import begins.
-    pub(crate) fn lacks_paths(&self, tree: &ModuleTree) -> Option<&CrateFile> {
-        for module in &tree.modules {
-            match self.files.get(module.file as usize) {
-                Some(file) if file.lacks_paths() => return Some(file),
-                _ => (),
-            }
-        }
-        None
+    /// Whether the trees tell where the path of each import begins.
+    pub(crate) fn tells_paths(&self) -> bool {
+        !self.files.iter().any(|file| has_global_list(file.text()))
     }
 
     /// What is told of the imports of a crate with these modules.
@@ -300,29 +283,26 @@ impl<'a> CrateSources<'a> {
 
     /// Whether a path leads to a file that was read.
     pub(crate) fn has_read(&self, path: &str) -> bool {
-        fs::metadata(self.rt, path).is_ok_and(|found| self.read_ids.contains(&id_of(&found)))
+        fs::metadata(self.rt, path).is_ok_and(|found| self.numbers.contains_key(&id_of(&found)))
     }
 
     /// Adds the files that the modules of a crate stand in and that were read, but those that are there.
     fn push_files<'f>(
         &'f self,
         tree: &ModuleTree,
-        seen: &mut BTreeSet<FileId>,
+        seen: &mut BTreeSet<u32>,
         files: &mut Vec<&'f CrateFile>,
     ) -> Result<(), AllocError> {
         for module in &tree.modules {
-            let place = module.file as usize;
-            if let (Some(file), Some(id)) = (self.files.get(place), self.ids.get(place)) {
-                if seen.insert(*id)? && !self.unread.contains(&module.file) {
-                    files.push(file)?;
-                }
+            let is_new = seen.insert(module.file)? && !self.unread.contains(&module.file);
+            if let (true, Some(file)) = (is_new, self.files.get(module.file as usize)) {
+                files.push(file)?;
             }
         }
         Ok(())
     }
 
-    /// The files that modules stand in and that were read, in the order of the modules, each once, also where links
-    /// lead to it.
+    /// The files that modules stand in and that were read, in the order of the modules, each once.
     pub(crate) fn files_of(&self, trees: &[ModuleTree]) -> Result<Vec<&CrateFile>, AllocError> {
         let alloc = self.rt.alloc();
         let (mut files, mut seen) = (Vec::new(alloc), BTreeSet::new(alloc));

@@ -1,12 +1,10 @@
 //! What a command line asks, done.
 use crate::changed::{Counting, compare};
 use crate::commands::run_files;
-use crate::crate_commands::{list_modules, list_resolved};
-use crate::crate_roots::Crates;
+use crate::crate_commands::{list_modules, list_orphans, list_resolved};
 use crate::failure::Failure;
 use crate::options::{atoms_of, options_of, request_options};
-use crate::orphans::list_orphans;
-use crate::packages::crates_of;
+use crate::packages::{Crates, crates_of};
 use crate::request::write_request;
 use crate::serve::{answer_editor, answer_lines};
 use itemtree_commands::Options;
@@ -36,9 +34,9 @@ fn run_crates(
     crates: &Crates,
 ) -> Result<u8, Failure> {
     match asked.command {
-        Command::Modules { has_orphans: true } => list_orphans(rt, asked, crates),
-        Command::Modules { .. } => list_modules(rt, asked, crates),
-        Command::Resolve { only_wrong } => list_resolved(rt, asked, crates, only_wrong),
+        Command::Modules { has_orphans: true } => list_orphans(rt, options, asked, &crates.roots),
+        Command::Modules { .. } => list_modules(rt, options, asked, &crates.roots),
+        Command::Resolve { only_wrong } => list_resolved(rt, options, asked, crates, only_wrong),
         _ => run_files(rt, options, asked, Some(crates)),
     }
 }
@@ -48,7 +46,7 @@ pub(crate) fn run_command(rt: &HostRuntime, asked: &Asked<'_>) -> Result<u8, Fai
     if let Command::Serve = asked.command {
         return answer_lines(rt);
     }
-    let atoms = match atoms_of(rt.alloc(), &asked.cfgs)? {
+    let mut atoms = match atoms_of(rt.alloc(), &asked.cfgs)? {
         Ok(atoms) => atoms,
         Err(word) => return Err(no_cfg(rt.alloc(), word)?),
     };
@@ -56,11 +54,13 @@ pub(crate) fn run_command(rt: &HostRuntime, asked: &Asked<'_>) -> Result<u8, Fai
         let options = request_options(rt.alloc(), asked, atoms, has_bodies)?;
         return write_request(rt, &options, asked);
     }
-    let options = options_of(rt.alloc(), asked, atoms, None)?;
     if let Some(krate) = asked.krate {
-        let crates = crates_of(rt, asked, krate)?;
+        let mut crates = crates_of(rt, asked, krate)?;
+        atoms.append(&mut crates.features)?;
+        let options = options_of(rt.alloc(), asked, atoms, crates.edition)?;
         return run_crates(rt, &options, asked, &crates);
     }
+    let options = options_of(rt.alloc(), asked, atoms, None)?;
     match asked.command {
         Command::Changed {
             old,

@@ -1,51 +1,38 @@
-//! The crates that a command line names: a root file, or those of a package or a workspace.
-use crate::crate_roots::{CrateRoot, Crates, atoms, import_facts, named_features};
+//! The crates that a command line names: a root file, or those of a package.
 use crate::escapes::Shown;
 use crate::failure::{Failure, refusal};
-use crate::files::is_a_folder;
-use crate::options::{edition_of, options_of};
-use crate::walk::{MANIFEST, is_file, names_of_folder, with_slash};
-use crate::workspaces::{manifest_text, member_folders, workspace_text};
-use cargo_manifest::{FeatureChoice, Target, TargetKind, Workspace};
+use crate::files::{ReadError, Room, is_a_folder};
+use crate::options::edition_of;
+use crate::walk::{MANIFEST, files_of_folder, is_file, with_slash};
+use cargo_manifest::{FeatureChoice, Root};
 use def_map::Manifest;
-use hir_input::EditionYear;
+use hir_input::{CfgAtom, EditionYear, Name};
 use itemtree_options::{Asked, CrateAsked};
 use std::alloc::{AllocError, Global};
-use std::collections::BTreeSet;
+use std::io;
 
-/// The kinds of which targets are found in folders.
-const FOUND: [TargetKind; 4] = [
-    TargetKind::Binary,
-    TargetKind::Test,
-    TargetKind::Example,
-    TargetKind::Benchmark,
-];
+/// How far above a package its workspace is looked for.
+const MOST_ABOVE: usize = 32;
 
-/// Finds crates.
+/// The crates that a command line names.
 #[derive(Drop)]
-struct Finder<'a, 't> {
-    rt: &'a HostRuntime,
-    asked: &'a Asked<'t>,
-    krate: CrateAsked<'t>,
-    /// The names of the features that are asked for.
-    named: Vec<&'t str>,
-    /// Those that some package has.
-    known: BTreeSet<String>,
-    /// The root files so far.
-    seen: BTreeSet<String>,
-    roots: Vec<CrateRoot>,
-    /// Whether a target was left out, because not all features that it requires are enabled.
-    has_disabled: bool,
+pub(crate) struct Crates {
+    /// Their root files.
+    pub(crate) roots: Vec<String>,
+    /// The edition, if a manifest tells it.
+    pub(crate) edition: Option<EditionYear>,
+    /// The cfgs of the features that are enabled.
+    pub(crate) features: Vec<CfgAtom>,
+    /// What bears on their imports.
+    pub(crate) facts: Manifest,
 }
 
-/// A package whose targets are looked for.
-#[derive(Clone, Copy)]
-struct Package<'p> {
-    /// Its folder, with a slash at the end; nothing for the working directory.
-    top: &'p str,
-    manifest: &'p cargo_manifest::Manifest,
-    /// The names of the features that are enabled.
-    enabled: &'p [&'p str],
+/// The folder of a package, with a slash behind it; nothing for the working directory.
+#[derive(Drop)]
+struct Package<'a> {
+    rt: &'a HostRuntime,
+    top: String,
+    roots: Vec<String>,
 }
 
 /// A crate that a manifest declares has no root file.
@@ -55,247 +42,288 @@ fn no_root(alloc: Global, top: &str, name: &str) -> Result<Failure, AllocError> 
     Ok(Failure::Usage(message))
 }
 
-impl<'t> Finder<'_, 't> {
-    /// Adds a crate, unless its root file is there.
-    fn push_root(
-        &mut self,
-        package: Package<'_>,
-        target: &Target,
-        path: String,
-    ) -> Result<(), AllocError> {
-        let (alloc, asked) = (self.rt.alloc(), self.asked);
-        if !self.seen.insert(path.clone()?)? {
-            return Ok(());
-        }
-        let year = edition_of(asked, target.edition);
-        let atoms = atoms(alloc, asked, package.enabled, target.kind)?;
-        self.roots.push(CrateRoot {
-            path,
-            year,
-            options: options_of(alloc, asked, atoms, Some(year))?,
-            facts: import_facts(alloc, year, package.manifest)?,
-            has_folder: matches!(target.kind, TargetKind::Library | TargetKind::Binary),
-        })?;
-        Ok(())
-    }
-
-    /// Adds a target at the first of its paths that has a file.
-    fn push_target(&mut self, package: Package<'_>, target: &Target) -> Result<(), Failure> {
-        let (alloc, top) = (self.rt.alloc(), package.top);
-        if !target.is_enabled(package.enabled) {
-            self.has_disabled = true;
-            return Ok(());
-        }
-        for path in &target.paths {
-            let path = format!(in alloc; "{top}{path}")?;
-            if is_file(self.rt, &path) {
-                return Ok(self.push_root(package, target, path)?);
-            }
-        }
-        if target.is_declared {
-            return Err(no_root(alloc, top, &target.name)?);
+impl Package<'_> {
+    fn push_root(&mut self, path: String) -> Result<(), AllocError> {
+        if !self.roots.contains(&path) {
+            self.roots.push(path)?;
         }
         Ok(())
     }
 
-    /// Adds the target that an entry of a folder is, if it is one.
-    fn push_entry(
-        &mut self,
-        package: Package<'_>,
-        kind: TargetKind,
-        entry: &str,
-    ) -> Result<(), Failure> {
-        let (alloc, manifest) = (self.rt.alloc(), package.manifest);
-        let found = match entry.strip_suffix(".rs") {
-            Some(name) => manifest.found_target(alloc, kind, name, false)?,
-            None => manifest.found_target(alloc, kind, entry, true)?,
-        };
-        let Some(target) = found else {
-            return Ok(());
-        };
-        let (folder, top) = (kind.folder(), package.top);
-        let path = format!(in alloc; "{folder}{entry}")?;
-        let whole = format!(in alloc; "{top}{path}")?;
-        if self.asked.filter.excludes(alloc, entry, &path, &whole)? {
-            return Ok(());
-        }
-        self.push_target(package, &target)
-    }
-
-    fn push_targets(&mut self, package: Package<'_>) -> Result<(), Failure> {
-        for target in &package.manifest.targets {
-            self.push_target(package, target)?;
-        }
-        for kind in &FOUND {
-            let (folder, top) = (kind.folder(), package.top);
-            let folder = format!(in self.rt.alloc(); "{top}{folder}")?;
-            for entry in names_of_folder(self.rt, &folder)? {
-                self.push_entry(package, *kind, &entry)?;
-            }
-        }
-        Ok(())
-    }
-
-    /// The names that are asked for: in a workspace, those that the package has.
-    fn named_of(
-        &mut self,
-        manifest: &cargo_manifest::Manifest,
-        is_member: bool,
-    ) -> Result<Vec<&'t str>, AllocError> {
-        let mut names = Vec::new(self.rt.alloc());
-        for name in &self.named {
-            let has = manifest
-                .features
-                .iter()
-                .any(|feature| feature.name.as_str() == *name);
-            if has {
-                self.known.insert(String::from_str(self.rt.alloc(), name)?)?;
-            }
-            if has || !is_member {
-                names.push(*name)?;
-            }
-        }
-        Ok(names)
-    }
-
-    /// Adds the crates of the package in a folder.
-    fn push_package(
-        &mut self,
-        top: &str,
-        text: &str,
-        workspace: Option<&str>,
-        is_member: bool,
-    ) -> Result<(), Failure> {
-        let alloc = self.rt.alloc();
-        let path = format!(in alloc; "{top}{MANIFEST}")?;
-        let library = format!(in alloc; "{top}src/lib.rs")?;
-        let has_library = is_file(self.rt, &library);
-        let read = cargo_manifest::Manifest::from_text(alloc, text, workspace, has_library);
-        let manifest = match read {
-            Ok(manifest) => manifest,
-            Err(error) => return Err(refusal(alloc, &path, error)?),
-        };
-        let named = self.named_of(&manifest, is_member)?;
-        let choice = FeatureChoice {
-            all: self.krate.has_all_features,
-            no_default: !self.krate.has_default_features,
-            named: named.as_slice(),
-        };
-        let enabled = match manifest.enabled_features(alloc, &choice) {
-            Ok(enabled) => enabled,
-            Err(error) => return Err(refusal(alloc, &path, error)?),
-        };
-        self.push_targets(Package {
-            top,
-            manifest: &manifest,
-            enabled: enabled.as_slice(),
-        })
-    }
-
-    /// Adds the crates of a member of a workspace.
-    fn push_member(&mut self, top: &str, workspace: &str) -> Result<(), Failure> {
-        let path = format!(in self.rt.alloc(); "{top}{MANIFEST}")?;
-        let text = manifest_text(self.rt, &path)?;
-        self.push_package(top, &text, Some(workspace), true)
-    }
-
-    /// Tells which of the features that are asked for no member has.
-    fn refuse_unknown(&self, path: &str) -> Result<(), Failure> {
-        let alloc = self.rt.alloc();
-        for name in &self.named {
-            if !self.known.contains(*name) {
-                let reason = format!(in alloc; "no feature {name}")?;
-                return Err(refusal(alloc, path, reason.as_str())?);
-            }
-        }
-        Ok(())
-    }
-
-    /// Adds the crates that a manifest is for: those of its package, or of the members of its workspace.
-    fn push_folder(&mut self, top: &str) -> Result<(), Failure> {
+    /// Adds the file of a root, if there is one.
+    fn push_first(&mut self, paths: &[String]) -> Result<bool, AllocError> {
         let (alloc, rt) = (self.rt.alloc(), self.rt);
-        let path = format!(in alloc; "{top}{MANIFEST}")?;
-        let text = manifest_text(rt, &path)?;
-        let own = match Workspace::from_text(alloc, &text) {
-            Ok(own) => own,
-            Err(error) => return Err(refusal(alloc, &path, error)?),
-        };
-        match &own.lists {
-            Some(members) if !own.has_package => {
-                for member in member_folders(rt, top, members)? {
-                    self.push_member(&member, &text)?;
-                }
-                self.refuse_unknown(&path)?;
-            }
-            _ => {
-                let workspace = workspace_text(rt, top, &own)?;
-                self.push_package(
-                    top,
-                    &text,
-                    workspace.as_ref().map(|text| text.as_str()),
-                    false,
-                )?;
+        for path in paths {
+            let top = &self.top;
+            let path = format!(in alloc; "{top}{path}")?;
+            if is_file(rt, &path) {
+                self.push_root(path)?;
+                return Ok(true);
             }
         }
-        if self.roots.is_empty() && !self.has_disabled {
-            return Err(refusal(alloc, &path, "no crate of this package has a root file")?);
-        }
-        Ok(())
+        Ok(false)
     }
 
-    /// Adds the crate of a root file. Its features are those that are named.
-    fn push_file(&mut self) -> Result<(), AllocError> {
-        let (alloc, asked) = (self.rt.alloc(), self.asked);
-        let year = edition_of(asked, None);
-        let atoms = atoms(alloc, asked, &self.named, TargetKind::Library)?;
-        self.roots.push(CrateRoot {
-            path: String::from_str(alloc, self.krate.root)?,
-            year,
-            options: options_of(alloc, asked, atoms, None)?,
-            facts: Manifest::new(alloc, year == EditionYear::E2015, Vec::new(alloc), None)?,
-            has_folder: true,
-        })?;
+    fn push_declared(&mut self, root: &Root) -> Result<(), Failure> {
+        if self.push_first(&root.paths)? || !root.is_declared {
+            return Ok(());
+        }
+        Err(no_root(self.rt.alloc(), &self.top, &root.name)?)
+    }
+
+    /// Adds the root files in the folder of binaries.
+    fn push_binaries(&mut self, asked: &Asked<'_>) -> Result<(), Failure> {
+        let (alloc, rt) = (self.rt.alloc(), self.rt);
+        let top = &self.top;
+        let folder = format!(in alloc; "{top}src/bin/")?;
+        if !is_a_folder(rt, &folder) {
+            return Ok(());
+        }
+        let found = files_of_folder(rt, &folder, asked)?;
+        if let Some(fault) = found.faults.first() {
+            return Err(refusal(alloc, &fault.path, fault.reason.as_str())?);
+        }
+        for file in found.files {
+            let below = file.strip_prefix(folder.as_str()).unwrap_or(&file);
+            let is_root = match below.split_once('/') {
+                Some((_, name)) => name == "main.rs",
+                None => true,
+            };
+            if is_root {
+                self.push_root(file)?;
+            }
+        }
         Ok(())
     }
 }
 
-/// The folder of the manifest that a command line names, with a slash at its end; nothing for the working directory.
-fn manifest_folder(rt: &HostRuntime, root: &str) -> Result<Option<String>, AllocError> {
+/// The text of a manifest.
+fn manifest_text(rt: &HostRuntime, path: &str) -> Result<String, Failure> {
+    let mut room = Room::new(rt.alloc());
+    match room.read(rt, path) {
+        Ok(text) => Ok(String::from_str(rt.alloc(), text)?),
+        Err(error) => Err(refusal(rt.alloc(), path, error)?),
+    }
+}
+
+/// The text of the nearest manifest above a package that has a workspace.
+fn workspace_text(rt: &HostRuntime, top: &str) -> Result<Option<String>, AllocError> {
+    let mut above = String::from_str(rt.alloc(), top)?;
+    for _level in 0..MOST_ABOVE {
+        above.push_str("../")?;
+        let path = format!(in rt.alloc(); "{above}{MANIFEST}")?;
+        let mut room = Room::new(rt.alloc());
+        match room.read(rt, &path) {
+            Ok(text) if text.contains("[workspace") => {
+                return Ok(Some(String::from_str(rt.alloc(), text)?));
+            }
+            Err(ReadError::Unread(error)) if error.kind() == io::ErrorKind::OutOfMemory => {
+                return Err(AllocError);
+            }
+            _ => {}
+        }
+    }
+    Ok(None)
+}
+
+/// What the manifest at a path tells, also by its workspace.
+fn manifest_at(
+    rt: &HostRuntime,
+    top: &str,
+    path: &str,
+) -> Result<cargo_manifest::Manifest, Failure> {
     let alloc = rt.alloc();
-    let folder = if is_a_folder(rt, root) {
-        with_slash(alloc, root)?
-    } else {
-        match root.strip_suffix(MANIFEST) {
-            Some(top) if top.is_empty() || top.ends_with("/") => String::from_str(alloc, top)?,
-            _ => return Ok(None),
-        }
+    let text = manifest_text(rt, path)?;
+    let manifest = match cargo_manifest::Manifest::from_text(alloc, &text, None) {
+        Ok(manifest) => manifest,
+        Err(error) => return Err(refusal(alloc, path, error)?),
     };
-    let top = folder.strip_prefix("./").unwrap_or(&folder);
-    Ok(Some(String::from_str(alloc, top)?))
+    if manifest.edition.is_some() {
+        return Ok(manifest);
+    }
+    let Some(workspace) = workspace_text(rt, top)? else {
+        return Ok(manifest);
+    };
+    match cargo_manifest::Manifest::from_text(alloc, &text, Some(&workspace)) {
+        Ok(manifest) => Ok(manifest),
+        Err(error) => Err(refusal(alloc, path, error)?),
+    }
 }
 
-/// The crates that a command line names: those of the package or workspace of a folder or a `Cargo.toml`, or that of a
-/// root file.
-pub(crate) fn crates_of(
+/// The cfg of a feature.
+fn push_feature(alloc: Global, name: &str, atoms: &mut Vec<CfgAtom>) -> Result<(), AllocError> {
+    let value = String::from_str(alloc, name)?;
+    if let Some(key) = Name::new(String::from_str(alloc, "feature")?) {
+        atoms.push(CfgAtom::KeyValue { key, value })?;
+    }
+    Ok(())
+}
+
+fn push_features(
+    alloc: Global,
+    names: &[&str],
+    atoms: &mut Vec<CfgAtom>,
+) -> Result<(), AllocError> {
+    for name in names {
+        push_feature(alloc, name, atoms)?;
+    }
+    Ok(())
+}
+
+/// The names of the features that are asked for.
+fn named_features<'a>(alloc: Global, asked: &Asked<'a>) -> Result<Vec<&'a str>, AllocError> {
+    let mut names = Vec::new(alloc);
+    for words in &asked.features {
+        let split = words.split(|c| c == ',' || c == ' ');
+        for name in split {
+            if !name.is_empty() {
+                names.push(name)?;
+            }
+        }
+    }
+    Ok(names)
+}
+
+/// The cfgs of the features of a package that are enabled.
+fn feature_atoms(
+    alloc: Global,
+    path: &str,
+    manifest: &cargo_manifest::Manifest,
+    asked: &Asked<'_>,
+    krate: CrateAsked<'_>,
+) -> Result<Vec<CfgAtom>, Failure> {
+    let named = named_features(alloc, asked)?;
+    let choice = FeatureChoice {
+        all: krate.has_all_features,
+        no_default: !krate.has_default_features,
+        named: named.as_slice(),
+    };
+    let mut atoms = Vec::new(alloc);
+    match manifest.enabled_features(alloc, &choice) {
+        Ok(names) => push_features(alloc, &names, &mut atoms)?,
+        Err(error) => return Err(refusal(alloc, path, error)?),
+    }
+    Ok(atoms)
+}
+
+fn push_name(alloc: Global, text: &str, names: &mut Vec<Name>) -> Result<(), AllocError> {
+    if let Some(name) = Name::new(String::from_str(alloc, text)?) {
+        names.push(name)?;
+    }
+    Ok(())
+}
+
+/// The names of other crates, if they are known: a dependency that is not renamed may call its library otherwise.
+fn other_crates(
+    alloc: Global,
+    manifest: &cargo_manifest::Manifest,
+) -> Result<Option<Vec<Name>>, AllocError> {
+    let mut names = Vec::new(alloc);
+    for dependency in &manifest.dependencies {
+        if dependency.package_name.is_none() {
+            return Ok(None);
+        }
+        push_name(alloc, &dependency.name, &mut names)?;
+    }
+    if let Some(library) = manifest.roots.first() {
+        push_name(alloc, &library.name, &mut names)?;
+    }
+    Ok(Some(names))
+}
+
+fn feature_names(
+    alloc: Global,
+    manifest: &cargo_manifest::Manifest,
+) -> Result<Vec<String>, AllocError> {
+    let mut names = Vec::new(alloc);
+    for feature in &manifest.features {
+        names.push(feature.name.clone()?)?;
+    }
+    Ok(names)
+}
+
+/// What a manifest says that bears on imports.
+fn import_facts(
+    alloc: Global,
+    asked: &Asked<'_>,
+    manifest: &cargo_manifest::Manifest,
+) -> Result<Manifest, AllocError> {
+    let (features, crates) = (
+        feature_names(alloc, manifest)?,
+        other_crates(alloc, manifest)?,
+    );
+    let is_2015 = edition_of(asked, manifest.edition) == EditionYear::E2015;
+    Manifest::new(alloc, is_2015, features, crates)
+}
+
+/// The root files of a package, whose folder has a slash behind it.
+fn package_roots(
+    rt: &HostRuntime,
+    asked: &Asked<'_>,
+    top: String,
+    manifest: &cargo_manifest::Manifest,
+) -> Result<Vec<String>, Failure> {
+    let mut package = Package {
+        rt,
+        top,
+        roots: Vec::new(rt.alloc()),
+    };
+    for root in &manifest.roots {
+        package.push_declared(root)?;
+    }
+    if manifest.lists_bin_folder {
+        package.push_binaries(asked)?;
+    }
+    let Package { roots, .. } = package;
+    Ok(roots)
+}
+
+/// The crates of a package, by its folder.
+fn package_crates(
     rt: &HostRuntime,
     asked: &Asked<'_>,
     krate: CrateAsked<'_>,
 ) -> Result<Crates, Failure> {
     let alloc = rt.alloc();
-    let mut finder = Finder {
-        rt,
-        asked,
-        krate,
-        named: named_features(alloc, asked)?,
-        known: BTreeSet::new(alloc),
-        seen: BTreeSet::new(alloc),
-        roots: Vec::new(alloc),
-        has_disabled: false,
-    };
-    match manifest_folder(rt, krate.root)? {
-        Some(top) => finder.push_folder(&top)?,
-        None => finder.push_file()?,
+    let top = with_slash(alloc, krate.root)?;
+    let top = String::from_str(alloc, top.strip_prefix("./").unwrap_or(&top))?;
+    let path = format!(in alloc; "{top}{MANIFEST}")?;
+    let manifest = manifest_at(rt, &top, &path)?;
+    let features = feature_atoms(alloc, &path, &manifest, asked, krate)?;
+    let facts = import_facts(alloc, asked, &manifest)?;
+    let roots = package_roots(rt, asked, top, &manifest)?;
+    if roots.is_empty() {
+        return Err(refusal(alloc, &path, "no crate of this package has a root file")?);
     }
-    let Finder { roots, .. } = finder;
-    Ok(Crates { roots })
+    Ok(Crates {
+        roots,
+        edition: manifest.edition,
+        features,
+        facts,
+    })
+}
+
+/// The crates that a command line names. Of a root file the features are those that are named.
+pub(crate) fn crates_of(
+    rt: &HostRuntime,
+    asked: &Asked<'_>,
+    krate: CrateAsked<'_>,
+) -> Result<Crates, Failure> {
+    if is_a_folder(rt, krate.root) {
+        return package_crates(rt, asked, krate);
+    }
+    let alloc = rt.alloc();
+    let is_2015 = edition_of(asked, None) == EditionYear::E2015;
+    let mut crates = Crates {
+        roots: Vec::new(alloc),
+        edition: None,
+        features: Vec::new(alloc),
+        facts: Manifest::new(alloc, is_2015, Vec::new(alloc), None)?,
+    };
+    push_features(alloc, &named_features(alloc, asked)?, &mut crates.features)?;
+    crates
+        .roots
+        .push(String::from_str(alloc, krate.root)?)
+        .map_err(AllocError::from)?;
+    Ok(crates)
 }

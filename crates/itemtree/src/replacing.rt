@@ -1,10 +1,8 @@
 //! Regular files that are replaced as a whole, or stand as they were.
 use crate::failure::{Failure, refusal};
 use crate::output::write_failure;
-use crate::tags::{OF_HEAD, write_lines};
-use std::alloc::Global;
-use std::fs::{File, Metadata, TryLockError};
-use std::io::{Read, Seek, SeekFrom};
+use crate::tags::write_lines;
+use std::fs::{File, Metadata};
 use std::os::unix::fs::MetadataExt;
 use std::{fs, io};
 
@@ -23,73 +21,21 @@ struct Beside {
     file: File,
 }
 
-/// What stands beside a file, under a name for the new one.
-#[derive(Drop)]
-enum Opened {
-    /// This run's file.
-    Ours(File),
-    /// Another run's.
-    Theirs,
-    InTheWay,
-}
-
-/// Whether no other run writes a file: a run holds the lock of its file until that has the name of the other. Where
-/// there are no locks, only a file that is made new is nobody else's.
-fn is_free(file: &File, is_new: bool) -> bool {
-    match file.try_lock() {
-        Ok(()) => true,
-        Err(TryLockError::WouldBlock) => false,
-        Err(TryLockError::Error(_)) => is_new,
+/// Opens a new file, or one that an ended run has left; not one that another run writes.
+///
+/// A run holds the lock of its file until that has the name of the other.
+fn open_unused(rt: &HostRuntime, path: &str) -> io::Result<Option<File>> {
+    let file = File::options().write(true).create(true).open(rt, path)?;
+    if file.try_lock().is_err() {
+        return Ok(None);
     }
-}
-
-/// Whether a path leads to a file still.
-fn is_at(rt: &HostRuntime, file: &File, path: &str) -> io::Result<bool> {
     match fs::symlink_metadata(rt, path) {
-        Ok(there) => Ok(is_same(&there, &file.metadata()?)),
-        Err(_) => Ok(false),
+        Ok(there) if is_same(&there, &file.metadata()?) => Ok(Some(file)),
+        _ => Ok(None),
     }
 }
 
-/// Whether a file is empty or begins as a tags file does.
-fn may_be_of_run(alloc: Global, mut file: &File) -> io::Result<bool> {
-    let mut begin = Vec::new(alloc);
-    let _count = file.take(OF_HEAD.len() as u64).read_to_end(&mut begin)?;
-    let _start = file.seek(SeekFrom::Start(0))?;
-    Ok(OF_HEAD.as_bytes().starts_with(&begin))
-}
-
-/// Opens the file of a run that was ended.
-fn open_left(rt: &HostRuntime, path: &str) -> io::Result<Opened> {
-    let file = match File::options().read(true).write(true).open(rt, path) {
-        Ok(file) => file,
-        // (it has the name of the other since it was looked for)
-        Err(error) if error.kind() == io::ErrorKind::NotFound => return Ok(Opened::Theirs),
-        Err(error) => return Err(error),
-    };
-    if !is_free(&file, false) || !is_at(rt, &file, path)? {
-        return Ok(Opened::Theirs);
-    }
-    if may_be_of_run(rt.alloc(), &file)? {
-        return Ok(Opened::Ours(file));
-    }
-    Ok(Opened::InTheWay)
-}
-
-/// Makes a new file, or opens one that an ended run has left; not one that another run writes.
-fn open_unused(rt: &HostRuntime, path: &str) -> io::Result<Opened> {
-    if is_in_the_way(rt, path) {
-        return Ok(Opened::InTheWay);
-    }
-    match File::create_new(rt, path) {
-        Ok(file) if is_free(&file, true) && is_at(rt, &file, path)? => Ok(Opened::Ours(file)),
-        Ok(_) => Ok(Opened::Theirs),
-        Err(error) if error.kind() == io::ErrorKind::AlreadyExists => open_left(rt, path),
-        Err(error) => Err(error),
-    }
-}
-
-/// Whether this is no file of a run, since it is none with one name.
+/// Whether this is in the way of a new file. What an ended run has left is not.
 fn is_in_the_way(rt: &HostRuntime, path: &str) -> bool {
     fs::symlink_metadata(rt, path).is_ok_and(|there| !there.is_file() || there.nlink() > 1)
 }
@@ -101,13 +47,13 @@ fn open_beside(rt: &HostRuntime, path: &str) -> Result<io::Result<Beside>, Failu
             0 => format!(in alloc; "{path}.new")?,
             turn => format!(in alloc; "{path}.new{turn}")?,
         };
+        if is_in_the_way(rt, &beside) {
+            let reason = "this is in the way: the new file is written here first";
+            return Err(refusal(alloc, &beside, reason)?);
+        }
         match open_unused(rt, &beside) {
-            Ok(Opened::Ours(file)) => return Ok(Ok(Beside { path: beside, file })),
-            Ok(Opened::Theirs) => {}
-            Ok(Opened::InTheWay) => {
-                let reason = "this is in the way: the new file is written here first";
-                return Err(refusal(alloc, &beside, reason)?);
-            }
+            Ok(Some(file)) => return Ok(Ok(Beside { path: beside, file })),
+            Ok(None) => {}
             Err(error) => return Ok(Err(error)),
         }
     }

@@ -105,12 +105,6 @@ impl Report<'_> {
         self.progress.clear();
     }
 
-    /// Reports on standard error what is left out, which is no error.
-    pub(crate) fn note(&mut self, path: impl Display + Drop, what: impl Display + Drop) {
-        self.progress.clear();
-        complain(self.rt, path, what);
-    }
-
     /// Tells on standard error that a file is not done.
     pub(crate) fn complain(&mut self, path: impl Display + Drop, error: impl Display + Drop) {
         self.fail();

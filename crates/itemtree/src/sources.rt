@@ -2,7 +2,7 @@
 use crate::escapes::Shown;
 use crate::failure::Failure;
 use crate::files::{Room, STDIN, is_a_folder};
-use crate::walk::{FolderId, Found, files_of_folder, refuse_absolute};
+use crate::walk::{Fault, FolderId, Found, files_of_folder};
 use itemtree_options::Asked;
 use std::alloc::{AllocError, Global};
 use std::collections::BTreeSet;
@@ -56,13 +56,21 @@ impl Sources<'_> {
         Ok(())
     }
 
+    fn push_faults(&mut self, faults: Vec<Fault>) -> Result<(), AllocError> {
+        for fault in faults {
+            if !self.found.faults.contains(&fault) {
+                self.found.faults.push(fault)?;
+            }
+        }
+        Ok(())
+    }
+
     fn push_folder(&mut self, path: &str) -> Result<(), AllocError> {
-        let mut found = files_of_folder(self.rt, path, self.asked)?;
+        let found = files_of_folder(self.rt, path, self.asked)?;
         for file in found.files {
             self.push_file(file)?;
         }
-        self.found.faults.append(&mut found.faults)?;
-        Ok(())
+        self.push_faults(found.faults)
     }
 
     fn push_path(&mut self, path: &str) -> Result<(), AllocError> {
@@ -163,7 +171,6 @@ pub(crate) fn files_of(rt: &HostRuntime, asked: &Asked<'_>) -> Result<Found, Fai
     refuse_wrong(alloc, asked)?;
     let mut found = Found::new(alloc);
     let paths = paths_of(rt, asked, &mut found)?;
-    refuse_absolute(rt, asked, paths.iter().any(|path| path.starts_with("/")))?;
     let mut sources = Sources {
         rt,
         asked,
@@ -171,9 +178,6 @@ pub(crate) fn files_of(rt: &HostRuntime, asked: &Asked<'_>) -> Result<Found, Fai
         found,
     };
     sources.push_paths(&paths)?;
-    let Sources { mut found, .. } = sources;
-    // (a folder may be read twice)
-    found.faults.sort()?;
-    found.faults.dedup();
+    let Sources { found, .. } = sources;
     Ok(found)
 }

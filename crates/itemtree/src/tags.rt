@@ -11,7 +11,7 @@ use std::os::unix::fs::FileTypeExt;
 use std::{fs, io};
 
 /// How the lines of a tags file's head begin.
-pub(crate) const OF_HEAD: &str = "!_TAG_";
+const OF_HEAD: &str = "!_TAG_";
 
 /// Where a first line ends at the latest, in bytes.
 const LONGEST_LINE: u64 = 1 << 20;

@@ -1,6 +1,5 @@
 //! The Rust files below a folder.
 use crate::escapes::Shown;
-use crate::failure::Failure;
 use itemtree_options::Asked;
 use std::alloc::{AllocError, Global};
 use std::collections::BTreeSet;
@@ -9,7 +8,7 @@ use std::fs::Metadata;
 use std::io::{BufRead, BufReader};
 use std::os::unix::fs::MetadataExt;
 use std::rt::Files;
-use std::{env, fs, io};
+use std::{fs, io};
 
 /// The file by which cargo marks a folder that it builds in.
 const CACHE_TAG: &str = "CACHEDIR.TAG";
@@ -157,25 +156,6 @@ fn may_have_unnamed(rt: &HostRuntime, folder: &str, names: &[Vec<u8>]) -> Result
     Ok(found.nlink() < 2 || found.nlink() > count)
 }
 
-/// The names of a folder's entries that are text, sorted; none if it cannot be read.
-pub(crate) fn names_of_folder(rt: &HostRuntime, folder: &str) -> Result<Vec<String>, AllocError> {
-    let alloc = rt.alloc();
-    let (mut names, mut texts) = (Vec::new(alloc), Vec::new(alloc));
-    match push_names(rt, folder, &mut names) {
-        Err(error) if error.kind() == io::ErrorKind::OutOfMemory => return Err(AllocError),
-        _ => {}
-    }
-    for name in &names {
-        if let Ok(name) = str::from_utf8(name) {
-            if !matches!(name, "" | "." | "..") {
-                texts.push(String::from_str(alloc, name)?)?;
-            }
-        }
-    }
-    texts.sort()?;
-    Ok(texts)
-}
-
 pub(crate) fn is_file(rt: &HostRuntime, path: &str) -> bool {
     fs::metadata(rt, path).is_ok_and(|found| found.is_file())
 }
@@ -309,26 +289,6 @@ pub(crate) fn with_slash(alloc: Global, folder: &str) -> Result<String, AllocErr
         path.push('/')?;
     }
     Ok(path)
-}
-
-/// A glob from the top on that leads into the working directory stands for no file where none is named from the top on.
-pub(crate) fn refuse_absolute(
-    rt: &HostRuntime,
-    asked: &Asked<'_>,
-    is_any_absolute: bool,
-) -> Result<(), Failure> {
-    let Ok(here) = env::current_dir(rt) else {
-        return Ok(());
-    };
-    match asked.filter.first_below(here.as_str()) {
-        Some(glob) if !is_any_absolute => {
-            let message = format!(in rt.alloc();
-                "--exclude '{glob}': no file has such a path, since none is named from / on"
-            )?;
-            Err(Failure::Usage(message))
-        }
-        _ => Ok(()),
-    }
 }
 
 /// Tells on standard error which links were left out, and that there is no file.

@@ -6,4 +6,3 @@ pub mod RequestTexts
 pub mod ModuleLists
 pub mod ImportChecks
 pub mod ImportTargets
-pub mod TextFacts

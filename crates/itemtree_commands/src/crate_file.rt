@@ -3,11 +3,9 @@ ghost use Rattle.std.specs.Prelude.{◌≡◌, IfErr, IfOk, string_bytes};
 ghost use Rattle.itemtree_commands.specs.Answers.{HasNoList};
 ghost use Rattle.itemtree_commands.specs.ModuleLists.{IsCrateFile, placed_text, position_in_text};
 ghost use Rattle.itemtree_commands.specs.ModuleLists.{tree_position_in_text};
-ghost use Rattle.itemtree_commands.specs.TextFacts as facts;
 
 use crate::Options;
 use crate::listed::{ListedTree, listed_tree};
-use crate::text_facts::{exports_of, lacks_paths};
 use crate::trees::SourceError;
 use hir_input::FileAstId;
 use item_tree::{ItemTree, UseTreeIdx};
@@ -23,8 +21,6 @@ pub struct CrateFile {
     path: String,
     text: String,
     listed: ListedTree,
-    exports: u32,
-    has_global_list: bool,
 }
 
 // (Written out: what is derived is proved anew, field by field, in each crate that drops one.)
@@ -34,17 +30,14 @@ impl Drop for CrateFile {
             path: _,
             text: _,
             listed: _,
-            exports: _,
-            has_global_list: _,
         } = self;
     }
 }
 
 impl Model for CrateFile {
-    ghost use Rattle.std.specs.Prelude.{◌≡◌, string_bytes};
+    ghost use Rattle.std.specs.Prelude.{string_bytes};
     ghost use Rattle.itemtree_commands.specs.Inner.{crate_file_code};
     ghost use Rattle.itemtree_commands.specs.ModuleLists as spec;
-    ghost use Rattle.itemtree_commands.specs.TextFacts.{exports_of, lacks_paths};
     ghost use Rattle.itemtree_commands.specs.Trees.{HasOwnIds};
 
     ghost Value = { spec.CrateFile };
@@ -59,9 +52,7 @@ impl Model for CrateFile {
       tree = x.listed.source.tree;
     } };
 
-    ghost invariant = { λ x. HasOwnIds x.listed.source
-        × (x.exports ≡ exports_of (string_bytes x.text) x.listed.source.tree)
-        × (x.has_global_list ≡ lacks_paths (string_bytes x.text) x.listed.source.use_trees.items) };
+    ghost invariant = { λ x. HasOwnIds x.listed.source };
 }
 
 impl CrateFile {
@@ -80,15 +71,7 @@ impl CrateFile {
         ensures refused { IfErr result (HasNoList options.now (string_bytes text)) }
     {
         let listed = listed_tree(alloc, &text, options)?;
-        let exports = exports_of(&text, &listed.source.tree);
-        let has_global_list = lacks_paths(&text, &listed.source.use_trees);
-        Ok(CrateFile {
-            path,
-            text,
-            listed,
-            exports,
-            has_global_list,
-        })
+        Ok(CrateFile { path, text, listed })
     }
 
     /// The path.
@@ -125,22 +108,6 @@ impl CrateFile {
         ensures { result.now ≡ self.now.tree }
     {
         &self.listed.source.tree
-    }
-
-    /// How often the text may export a macro: as often as the word `macro_export` stands in it, or as often as can be
-    /// if modules are written in it that the tree does not have, as those in bodies: their files are not read.
-    pub fn exports(&self) -> u32
-        ensures { result ≡ facts.exports_of self.now.text self.now.tree }
-    {
-        self.exports
-    }
-
-    /// Whether a use tree of the file is a list behind `::` alone, as in `use ::{a, b};`: the item tree has the list
-    /// without the `::`.
-    pub fn lacks_paths(&self) -> bool
-        ensures { result ≡ facts.lacks_paths self.now.text self.now.use_trees }
-    {
-        self.has_global_list
     }
 }
 

@@ -13,7 +13,6 @@ mod looks;
 mod module_lists;
 mod module_paths;
 mod request;
-mod text_facts;
 mod trees;
 
 ghost use Rattle.std.specs.Prelude.{◌≡◌, ◌≤◌, ◌^◌, length, map, IfOk, IfErr, OnOk, string_bytes};

@@ -126,9 +126,6 @@ pub(crate) const NO_DEFAULT_FEATURES: Argument =
 pub(crate) const ORPHANS: Argument = argument!(FLAG id: "orphans";
     "List the Rust files below the folder of the root file that no module is in, instead");
 
-pub(crate) const STDIO: Argument = argument!(FLAG id: "stdio";
-    "Talk over standard input and output, as it does anyway: some editors add this");
-
 pub(crate) const JSON_MODULES: Argument = argument!(JSON id: "json";
     "Write a JSON object for each module, on a line of its own");
 
@@ -246,7 +243,7 @@ pub(crate) const TREE: Argument = argument!(FLAG id: "tree";
     "Tell nothing where the item trees are equal, which keep no signatures, fields, variants, values or members");
 
 pub(crate) const PUBLIC: Argument = argument!(FLAG id: "public", bars: &["tree"];
-    "Tell only of what is public, by the visibilities that are written; not with --tree");
+    "Tell nothing of what is seen in its module alone, by the visibilities that are written; not with --tree");
 
 pub(crate) const CFG_OF_TREE: Argument = Argument {
     needs: &["tree"],

@@ -72,15 +72,6 @@ impl<'a> Filter<'a> {
         is_excluded(alloc, &self.excluded, name, path, whole)
     }
 
-    /// The first of the globs that begin with the path of a folder, which does not end with a slash.
-    pub fn first_below(&self, folder: &str) -> Option<&'a str> {
-        let is_below = |glob: &&&str| {
-            let rest = glob.strip_prefix(folder);
-            rest.is_some_and(|rest| rest.starts_with("/"))
-        };
-        self.excluded.iter().find(is_below).copied()
-    }
-
     /// Whether a folder of this name is left out where cargo builds in it.
     pub fn excludes_built(&self, name: &str) -> bool
         ensures { result ≡ spec.excludes_built self.now name.now }
@@ -191,19 +182,13 @@ fn glob_below(glob: &str) -> &str {
     }
 }
 
-/// Whether a glob has a `..` that does not stand before all names, as in paths that are named so.
-fn leads_back(glob: &str) -> bool {
-    let names = glob_below(glob).trim_start_matches("../");
-    names.split('/').any(|part| part == "..")
-}
-
 /// Why a glob can stand for no path, or does not mean what it seems to.
 pub(crate) fn glob_fault(glob: &str) -> Option<&'static str> {
     if glob.starts_with("!") || glob.chars().any(is_foreign) {
         return Some("only *, ** and ? mean something in a glob; ? stands for any other mark too");
     }
     let is_void = |part: &str| part.is_empty() || part == ".";
-    if glob == "./" || glob_below(glob).split('/').any(is_void) || leads_back(glob) {
+    if glob == "./" || glob_below(glob).split('/').any(is_void) {
         return Some("no file has such a name or path");
     }
     None

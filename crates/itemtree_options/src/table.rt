@@ -5,7 +5,7 @@ use crate::arguments::{
     FILES_OR_CRATE, FLAT, FOLLOW, HIDDEN, HOST_CFG, HOST_CFG_OF_CRATE, HOST_CFG_OF_TREE, IDS,
     IGNORE_CASE, JSON, JSON_CHANGES, JSON_FOUND, JSON_IMPORTS, JSON_MODULES, KIND, KRATE, NAME,
     NEW, NO_BODIES, NO_DEFAULT_FEATURES, NO_MEMBERS, OLD, OPENED, ORPHANS, OUTPUT, PUBLIC, QUIET,
-    RELATIVE, RESOLVE, ROOT, SHOW, SKIP, SKIP_OF_TREE, STDIO, TREE, UNRESOLVED,
+    RELATIVE, RESOLVE, ROOT, SHOW, SKIP, SKIP_OF_TREE, TREE, UNRESOLVED,
 };
 
 /// A command, with what stands behind its help.
@@ -243,7 +243,7 @@ static LSP: Description = Description {
 
 Status: 0 if the editor ends it as the protocol says, 1 if not, 2 if the command line is wrong, 6 if reading or
 writing fails",
-    arguments: &[EDITION, CFG, HOST_CFG, STDIO],
+    arguments: &[EDITION, CFG, HOST_CFG],
 };
 
 static CHECK: Description = Description {

@@ -1,15 +1,22 @@
 -- Entries of a map as plain data.
-use Rattle.std.proofs.Common.{◌≡◌, Bool, true, false, cond, List, [], ◌∷◌, Option, Some, None, map, option_map, option_copied, Bor, refl, sym, ap, ◌∙◌, ℕ, String, Global, Ordering, Less, Equal, Greater, string_bytes}
+use Rattle.std.proofs.Common.{◌≡◌, Bool, true, false, cond, List, [], ◌∷◌, Option, Some, None, Result, Err, subst, map, option_map, option_copied, Bor, refl, sym, ap, ◌∙◌, ℕ, String, Global, Ordering, Less, Equal, Greater, string_bytes}
 use Rattle.std.specs.BTreeMap.{insert_entry, is_at}
 use Rattle.std.specs.Cmp.Lexicographic.{slice_cmp}
 use Rattle.std.specs.Map.{lookup, remove_entry}
-use Rattle.std.specs.Map.Calls.{RetainsPairs}
 use Rattle.std.specs.Ordering.{is_eq, match_ordering, nat_cmp}
 use Rattle.std.specs.String.{string_cmp}
 use Rattle.std.proofs.lemmas.Map.Text.{is_eq-slice_cmp}
 use Rattle.std.proofs.lemmas.Slice.Eq.{bytes_eq-Decides}
 use Rattle.lsp.specs.declared.document.Document.{Document}
-use Rattle.lsp.specs.Documents.{all_lost, document_in, with_document, without_document}
+use Rattle.serde_json.specs.Data.{Data}
+use Rattle.hir_input_json.specs.Reading.{Reading, right, ◌>>=◌}
+use Rattle.hir_input_json.specs.Reads.{Tells}
+use Rattle.hir_input_json.specs.declared.fault.Fault.{Fault}
+use Rattle.hir_input_json.specs.declared.fault.Fault.TheVariants.{WrongForm, OutOfMemory}
+use Rattle.lsp.specs.Inner.{OnRead}
+use Rattle.lsp.specs.Servers.{changed_by}
+use Rattle.lsp.specs.Documents as view
+use Rattle.lsp.specs.Documents.{Documents, asked_document, document_in, open_document, uri_form, with_document, without_document}
 use Rattle.lsp.specs.Views.{document_view, document_entry_view}
 
 module _ {K L X Y : Type 0} (f : K → L) (g : X → Y) where
@@ -72,20 +79,16 @@ document_put es uri d = sym (insert_seen string_bytes document_view (slice_cmp n
 pub name_found : (uri : List ℕ) (name : String Global) → slice_cmp nat_cmp uri (string_bytes name) ≡ Equal → uri ≡ string_bytes name
 name_found uri name same = (bytes_eq-Decides uri (string_bytes name)).0 (sym (is_eq-slice_cmp uri (string_bytes name)) ∙ ap is_eq same)
 
--- ---- documents that are lost
+-- the document of the name that parameters give
+pub document_asked : (ds : Documents) (params : Data) (uri : List ℕ) (d : view.Document) → uri_form params ≡ right uri → open_document (document_in ds uri) ≡ right d → asked_document ds params ≡ right (uri, d)
+document_asked ds params uri d u o = ap (λ r. ◌>>=◌ r (λ uri. ◌>>=◌ (open_document (document_in ds uri)) (λ d. right (uri, d)))) u ∙ ap (λ r. ◌>>=◌ r (λ d. right (uri, d))) o
 
-abbrev pub marked : Document → Document
-marked d = record { text = d.text; is_rust = d.is_rust; version = d.version; is_lost = true }
+-- one whose changes cannot be read is closed
+unread_by : (A : Type 0) (e : Fault) (docs new : Documents) (uri : List ℕ) (r : Reading view.Document) → Tells r e → new ≡ without_document docs uri → OnRead {A = A} (Err e) (new ≡ changed_by docs uri (Some r))
+unread_by A (WrongForm pointer) docs new uri r told is = is ∙ ap (λ r. changed_by docs uri (Some r)) (sym (told refl))
+unread_by A OutOfMemory docs new uri r told is = tt
 
-module _ {F K X : Type 0} (T : F → K → X → Bool → X → F → Type 0) (change : X → X) where
-  kept_by : (k : K) (w v : X) (b : Bool) (rest es : List (K × X)) → b ≡ true → w ≡ change v → rest ≡ map (λ e. (e.0, change e.1)) es → cond b ((k, w) ∷ rest) rest ≡ (k, change v) ∷ map (λ e. (e.0, change e.1)) es
-  kept_by k w v b rest es kept is more = ap (λ b. cond b ((k, w) ∷ rest) rest) kept ∙ (λ i. (k, is i) ∷ more i)
-
-  -- calls that keep each entry and change its value so
-  pub all_changed : ((f : F) (k : K) (v : X) (b : Bool) (w : X) (g : F) → T f k v b w g → (b ≡ true) × (w ≡ change v)) → (f : F) (es kept : List (K × X)) → RetainsPairs T f es kept → kept ≡ map (λ e. (e.0, change e.1)) es
-  all_changed each f [] kept h = h
-  all_changed each f (e ∷ es) kept (b, w, g, rest, called, more, is) = let so = each f e.0 e.1 b w g called in is ∙ kept_by e.0 w e.1 b rest es so.0 so.1 (all_changed each g es rest more)
-
-pub lost_seen : (es : Entries) → map document_entry_view (map (λ e. (e.0, marked e.1)) es) ≡ all_lost (map document_entry_view es)
-lost_seen [] = refl
-lost_seen (e ∷ es) = ap (λ ds. document_entry_view (e.0, marked e.1) ∷ ds) (lost_seen es)
+pub closed_unread : {A : Type 0} (result : Result A Fault) (e : Fault) (docs new : Documents) (uri : List ℕ) (o : Option (Reading view.Document)) (r : Reading view.Document) → result ≡ Err e → o ≡ Some r → Tells r e
+    → new ≡ without_document docs uri → OnRead result (new ≡ changed_by docs uri o)
+closed_unread {A} result e docs new uri o r is stood told left =
+    subst (λ x. OnRead x (new ≡ changed_by docs uri o)) (sym is) (subst (λ o. OnRead {A = A} (Err e) (new ≡ changed_by docs uri o)) (sym stood) (unread_by A e docs new uri r told left))

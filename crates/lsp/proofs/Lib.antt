@@ -1,9 +1,11 @@
+pub mod AskedRanges
 pub mod Documents
 pub mod Escapes
 pub mod Examples
-pub mod ItemSymbols
-pub mod ListedTexts
+pub mod ListedParts
 pub mod Messages
 pub mod NoFloats
 pub mod OpenedDocuments
+pub mod PlainRanges
 pub mod PushedSymbols
+pub mod ItemSymbols

@@ -6,16 +6,21 @@ use Rattle.serde_json.specs.Data.{Data, null, boolean, number, string, array, ob
 use Rattle.serde_json.specs.Find.{as_str, get}
 use Rattle.hir_input_json.specs.Reading.{Reading, right, wrong, under, ◌>>=◌}
 use Rattle.hir_input_json.specs.Forms.{field, object_members, required_by, text_form, unless_null}
-use Rattle.lsp.specs.Documents.{Document, Documents, document_in, known_by, known_document, open_form, opened_form, uri_form, uri_in}
+use Rattle.line_index.specs.declared.Point.{Point}
+use Rattle.lsp.specs.Documents.{Document, Documents, asked_document, document_in, open_document, open_form, opened_form, uri_form, uri_in}
+use Rattle.lsp.proofs.Documents.{document_asked}
 use Rattle.lsp.specs.Opened.{AreAnsweredAlike, HasJustOpened, IsAboutDocument, IsSameText}
+use Rattle.lsp.specs.Ranges.{AreAskedRanges, AreRanges, asked_places, places_form}
 use Rattle.lsp.specs.Responses.{RequestOutcome}
-use Rattle.lsp.specs.Servers.{ServerState, AreAskedSymbols, AreKnownSymbols, AreRustSymbols, IsDoneUnless, documents_by, noticed_documents, noticed_in, opened_documents, refusal}
+use Rattle.lsp.specs.Servers.{ServerState, AreAskedSymbols, AreRustSymbols, IsDoneUnless, documents_by, noticed_documents, noticed_in, opened_documents, refusal}
 use Rattle.lsp.specs.declared.client.Client.{Client}
 use Rattle.lsp.specs.declared.method.NotificationMethod.TheVariants.{DidOpen}
+use Rattle.lsp.specs.declared.method.RangeKind.{RangeKind}
 use Rattle.lsp.specs.declared.method.RequestMethod.{RequestMethod}
-use Rattle.lsp.specs.declared.method.RequestMethod.TheVariants.{DocumentSymbol}
+use Rattle.lsp.specs.declared.method.RequestMethod.TheVariants.{DocumentSymbol, Ranges}
 use Rattle.lsp.specs.declared.phase.Phase.TheVariants.{Running}
 use Rattle.itemtree_commands.specs.declared.Options.{Options}
+use Rattle.line_index.specs.declared.Units.{Units}
 
 -- ---- parameters that open a document name it
 
@@ -76,24 +81,32 @@ opening_names params d e =
 
 -- a document of this version
 abbrev of_version : Document → Option ℤ → Document
-of_version d version = record { text = d.text; is_rust = d.is_rust; version = version; is_lost = d.is_lost }
+of_version d version = record { text = d.text; is_rust = d.is_rust; version = version }
 
 symbols_of_version : (o : Options) (c : Client) (uri : List ℕ) (d : Document) (version : Option ℤ) (b : Bool) (out : RequestOutcome) → AreRustSymbols o c b uri (of_version d version) out ↔ AreRustSymbols o c b uri d out
 symbols_of_version o c uri d version true (Ok symbols) = (λ h. h, λ h. h)
 symbols_of_version o c uri d version true (Err e) = (λ h. h, λ h. h)
 symbols_of_version o c uri d version false out = (λ h. h, λ h. h)
 
+ranges_of_version : (o : Options) (units : Units) (kind : RangeKind) (d : Document) (version : Option ℤ) (places : List Point) (out : RequestOutcome) → AreRanges o units kind (of_version d version) places out ↔ AreRanges o units kind d places out
+ranges_of_version o units kind d version places (Ok a) = (λ h. h, λ h. h)
+ranges_of_version o units kind d version places (Err e) = (λ h. h, λ h. h)
+
+asked_of_version : (o : Options) (units : Units) (kind : RangeKind) (d : Document) (version : Option ℤ) (r : Reading (List Point)) (out : RequestOutcome)
+    → AreAskedRanges o units kind (◌>>=◌ r (λ places. right (of_version d version, places))) out ↔ AreAskedRanges o units kind (◌>>=◌ r (λ places. right (d, places))) out
+asked_of_version o units kind d version (right places) out = ranges_of_version o units kind d version places out
+asked_of_version o units kind d version (wrong pointer) out = (λ h. h, λ h. h)
+
 is_version : (d e : Document) → IsSameText e d → e ≡ of_version d e.version
-is_version d e same = λ i. record { text = same.text i; is_rust = same.is_rust i; version = e.version; is_lost = same.is_lost i }
+is_version d e same = λ i. record { text = same.text i; is_rust = same.is_rust i; version = e.version }
 
--- the same of one that is lost or not
-known_of_version : (o : Options) (c : Client) (uri : List ℕ) (d : Document) (version : Option ℤ) (b : Bool) (out : RequestOutcome) → AreKnownSymbols o c uri (known_by b (of_version d version)) out ↔ AreKnownSymbols o c uri (known_by b d) out
-known_of_version o c uri d version true out = (λ h. h, λ h. h)
-known_of_version o c uri d version false out = symbols_of_version o c uri d version d.is_rust out
+-- ---- what parameters ask about is the document of their name
 
--- what is asked about the document of a name
-asked_is : (o : Options) (c : Client) (ds : Documents) (params : Data) (uri : List ℕ) (d : Document) (out : RequestOutcome) → uri_form params ≡ right uri → document_in ds uri ≡ Some d → AreAskedSymbols o c ds (uri_form params) out ≡ AreKnownSymbols o c uri (known_by d.is_lost d) out
-asked_is o c ds params uri d out u f = ap (λ r. AreAskedSymbols o c ds r out) u ∙ ap (λ x. AreKnownSymbols o c uri (known_document x) out) f
+places_asked : (kind : RangeKind) (ds : Documents) (params : Data) (uri : List ℕ) (d : Document) → uri_form params ≡ right uri → document_in ds uri ≡ Some d
+    → asked_places kind ds params ≡ ◌>>=◌ (places_form kind params) (λ places. right (d, places))
+places_asked kind ds params uri d u f =
+    ap (λ r. ◌>>=◌ r (λ uri. ◌>>=◌ (places_form kind params) (λ places. ◌>>=◌ (open_document (document_in ds uri)) (λ d. right (d, places))))) u
+    ∙ ap (λ o. ◌>>=◌ (places_form kind params) (λ places. ◌>>=◌ (open_document o) (λ d. right (d, places)))) f
 
 only_one : (uri : List ℕ) (d : Document) → document_in ((uri, d) ∷ []) uri ≡ Some d
 only_one uri d = ap (λ b. cond b (Some d) None) (is_eq-slice_cmp uri uri ∙ (bytes_eq-Decides uri uri).1 refl)
@@ -128,11 +141,20 @@ done_alike : (s t : ServerState) (uri : List ℕ) (d e : Document) (method : Req
     → document_in s.documents uri ≡ Some d → document_in t.documents uri ≡ Some e → IsAboutDocument method → uri_form params ≡ right uri
     → IsDoneUnless (refusal Running method) s method params s out ↔ IsDoneUnless (refusal Running method) t method params t out
 done_alike s t uri d e DocumentSymbol params out o c same f g about u =
-    let version = known_of_version t.options t.client uri d e.version d.is_lost out in
-    let mine : AreAskedSymbols s.options s.client s.documents (uri_form params) out ≡ AreKnownSymbols t.options t.client uri (known_by d.is_lost d) out =
-    asked_is s.options s.client s.documents params uri d out u f ∙ (λ i. AreKnownSymbols (o i) (c i) uri (known_by d.is_lost d) out) in
-    let theirs : AreAskedSymbols t.options t.client t.documents (uri_form params) out ≡ AreKnownSymbols t.options t.client uri (known_by d.is_lost (of_version d e.version)) out =
-    asked_is t.options t.client t.documents params uri e out u g ∙ ap (λ x. AreKnownSymbols t.options t.client uri (known_by x.is_lost x) out) (is_version d e same) in
+    let version = symbols_of_version t.options t.client uri d e.version d.is_rust out in
+    let mine : AreAskedSymbols s.options s.client (asked_document s.documents params) out ≡ AreRustSymbols t.options t.client d.is_rust uri d out =
+    (λ i. AreAskedSymbols (o i) (c i) (document_asked s.documents params uri d u (ap open_document f) i) out) in
+    let theirs : AreAskedSymbols t.options t.client (asked_document t.documents params) out ≡ AreRustSymbols t.options t.client d.is_rust uri (of_version d e.version) out =
+    ap (λ r. AreAskedSymbols t.options t.client r out) (document_asked t.documents params uri e u (ap open_document g) ∙ ap (λ d. right (uri, d)) (is_version d e same)) in
+    (λ h. (refl, cast (sym theirs) (version.1 (cast mine h.1))), λ h. (refl, cast (sym mine) (version.0 (cast theirs h.1))))
+done_alike s t uri d e (Ranges kind) params out o c same f g about u =
+    let version = asked_of_version t.options t.client.units kind d e.version (places_form kind params) out in
+    let mine : AreAskedRanges s.options s.client.units kind (asked_places kind s.documents params) out ≡ AreAskedRanges t.options t.client.units kind (◌>>=◌ (places_form kind params) (λ places. right (d, places))) out =
+    (λ i. AreAskedRanges (o i) ((c i).units) kind (places_asked kind s.documents params uri d u f i) out) in
+    let theirs : AreAskedRanges t.options t.client.units kind (asked_places kind t.documents params) out
+    ≡ AreAskedRanges t.options t.client.units kind (◌>>=◌ (places_form kind params) (λ places. right (of_version d e.version, places))) out =
+    ap (λ r. AreAskedRanges t.options t.client.units kind r out)
+    (places_asked kind t.documents params uri e u g ∙ ap (λ d. ◌>>=◌ (places_form kind params) (λ places. right (d, places))) (is_version d e same)) in
     (λ h. (refl, cast (sym theirs) (version.1 (cast mine h.1))), λ h. (refl, cast (sym mine) (version.0 (cast theirs h.1))))
 done_alike s t uri d e _ params out o c same f g about u = absurd about
 

@@ -12,11 +12,6 @@ use Rattle.lsp.specs.declared.position.Span.{Span}
 abbrev pub protocol_style : Units → Style
 protocol_style units = record { units = units; line_ends = All; shows_mark = true }
 
--- a text, and what the columns of its places count
-pub record UnitText : Type 0 where
-  pub units : Units
-  pub text : List ℕ
-
 -- the byte of a position
 abbrev pub byte_of : Units → Point → List ℕ → ℕ
 byte_of units place text = byte_at (protocol_style units) text place

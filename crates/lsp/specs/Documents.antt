@@ -1,5 +1,5 @@
 -- Open documents.
-use Rattle.std.specs.Prelude.{ℤ, ℕ, Bool, true, false, ◌||◌, List, codes, bytes_eq, map, nat_eq, Option, Some, None, option_and_then, Result, Ok, Err}
+use Rattle.std.specs.Prelude.{ℤ, ℕ, Bool, ◌||◌, List, [], codes, bytes_eq, nat_eq, Option, Some, None, option_and_then}
 use Rattle.std.specs.BTreeMap.{insert_entry, is_at}
 use Rattle.std.specs.Cmp.Lexicographic.{slice_cmp}
 use Rattle.std.specs.List.{ends_with}
@@ -7,17 +7,14 @@ use Rattle.std.specs.Map.{lookup, remove_entry}
 use Rattle.std.specs.Ordering.{nat_cmp}
 use Rattle.serde_json.specs.Data.{Data}
 use Rattle.serde_json.specs.Find.{as_number, as_i64, as_str, get}
-use Rattle.hir_input_json.specs.Reading.{Reading, right, ◌>>=◌}
+use Rattle.hir_input_json.specs.Reading.{Reading, right, wrong, ◌>>=◌, pointer_behind}
 use Rattle.hir_input_json.specs.Forms.{object_members, required_at, text_form, field}
-use Rattle.lsp.specs.declared.response.ResponseError.{ResponseError}
-use Rattle.lsp.specs.declared.response.ResponseError.TheVariants.{DocumentLost, NotOpen}
 
--- an open document: its text, whether it is Rust, its version, where that is known, and whether it is lost: a change of it may not have been read, so its text may be another
+-- an open document: its text, whether it is Rust, and its version, where that is known
 pub record Document : Type 0 where
   pub text : List ℕ
   pub is_rust : Bool
   pub version : Option ℤ
-  pub is_lost : Bool
 
 -- the open documents, each with its name, in the order of names
 abbrev pub Documents : Type 0
@@ -35,18 +32,6 @@ without_document ds uri = remove_entry (is_at (slice_cmp nat_cmp uri)) ds
 abbrev pub with_document : Documents → List ℕ → Document → Documents
 with_document ds uri d = insert_entry (slice_cmp nat_cmp) ds uri d
 
--- a document is lost
-abbrev pub lost : Document → Document
-lost d = record { text = d.text; is_rust = d.is_rust; version = d.version; is_lost = true }
-
--- each of them
-abbrev pub all_lost : Documents → Documents
-all_lost ds = map (λ e. (e.0, lost e.1)) ds
-
--- a document whose text is known again
-abbrev pub with_text : List ℕ → Document → Document
-with_text text d = record { text = text; is_rust = d.is_rust; version = d.version; is_lost = false }
-
 -- a text is Rust by what the client calls its language, or else by its name
 abbrev pub is_rust : (language uri : List ℕ) → Bool
 is_rust language uri = bytes_eq language (codes "rust") || ends_with nat_eq uri (codes ".rs")
@@ -62,7 +47,7 @@ opened_form d = do
   uri ← required_at (codes "uri") text_form d
   language ← required_at (codes "languageId") text_form d
   text ← required_at (codes "text") text_form d
-  right (uri, record { text = text; is_rust = is_rust language uri; version = version_in d; is_lost = false })
+  right (uri, record { text = text; is_rust = is_rust language uri; version = version_in d })
 
 -- the parameters by which one is opened
 abbrev pub open_form : Data → Reading (List ℕ × Document)
@@ -90,16 +75,14 @@ uri_form d = do
   _ ← object_members d
   required_at (codes "textDocument") uri_member_form d
 
--- a document, if it is not lost
-abbrev pub known_by : Bool → Document → Result Document ResponseError
-known_by true d = Err DocumentLost
-known_by false d = Ok d
+-- an open document, or parameters that name none
+abbrev pub open_document : Option Document → Reading Document
+open_document None = wrong (pointer_behind (codes "textDocument") (pointer_behind (codes "uri") []))
+open_document (Some d) = right d
 
--- one that a request may be about, or why it may not
-abbrev pub known_document : Option Document → Result Document ResponseError
-known_document None = Err NotOpen
-known_document (Some d) = known_by d.is_lost d
-
--- the text of a document, as a notification that it was saved has it
-abbrev pub saved_text : Data → Option (List ℕ)
-saved_text d = option_and_then as_str (get (codes "text") d)
+-- the document that parameters are about, with its name
+abbrev pub asked_document : Documents → Data → Reading (List ℕ × Document)
+asked_document ds params = do
+  uri ← uri_form params
+  d ← open_document (document_in ds uri)
+  right (uri, d)

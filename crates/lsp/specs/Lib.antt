@@ -7,6 +7,11 @@ pub mod Diagnostics
 pub mod Changes
 pub mod Surrogates
 pub mod Symbols
+pub mod Parts
+pub mod Folding
+pub mod Selection
+pub mod Highlight
+pub mod Ranges
 pub mod Methods
 pub mod Responses
 pub mod Servers

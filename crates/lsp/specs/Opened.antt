@@ -9,14 +9,13 @@ use Rattle.lsp.specs.Responses.{RequestOutcome}
 use Rattle.lsp.specs.Servers.{ServerState, IsRequestAnswered, IsRequestDone, new_server, state_behind}
 use Rattle.lsp.specs.declared.client.Client.{Client}
 use Rattle.lsp.specs.declared.method.RequestMethod.{RequestMethod}
-use Rattle.lsp.specs.declared.method.RequestMethod.TheVariants.{Initialize, DocumentSymbol}
+use Rattle.lsp.specs.declared.method.RequestMethod.TheVariants.{Initialize, DocumentSymbol, Ranges}
 use Rattle.lsp.specs.declared.method.NotificationMethod.TheVariants.{DidOpen}
 
--- the text and the kind of a document are those of another, and both are lost or neither
+-- the text and the kind of a document are those of another
 pub record IsSameText (d e : Document) : Type 0 where
   pub text : d.text ≡ e.text
   pub is_rust : d.is_rust ≡ e.is_rust
-  pub is_lost : d.is_lost ≡ e.is_lost
 
 -- a new server for this client has opened a document of the same name and text, and nothing else
 pub record HasJustOpened (o : Options) (c : Client) (uri : List ℕ) (d : Document) (fresh : ServerState) : Type 0 where
@@ -34,6 +33,7 @@ pub record HasJustOpened (o : Options) (c : Client) (uri : List ℕ) (d : Docume
 -- the request asks about a document
 abbrev pub IsAboutDocument : RequestMethod → Type 0
 IsAboutDocument DocumentSymbol = ⊤
+IsAboutDocument (Ranges kind) = ⊤
 IsAboutDocument _ = ⊥
 
 -- two servers have the same answers to requests about the document of a name

@@ -6,10 +6,12 @@ use Rattle.hir_input_json.specs.declared.fault.Fault.{Fault}
 use Rattle.hir_input_json.specs.declared.fault.Fault.TheVariants.{WrongForm}
 use Rattle.hir_input_json.specs.declared.fault.Fault.TheVariants as fault
 use Rattle.item_tree.specs.declared.fault.LowerError.TheVariants as lowering
+use Rattle.source_rows.specs.declared.read_texts.ReadError.{ReadError}
+use Rattle.source_rows.specs.declared.read_texts.ReadError.TheVariants as read
 use Rattle.itemtree_commands.specs.declared.trees.SourceError.{SourceError}
 use Rattle.itemtree_commands.specs.declared.trees.SourceError.TheVariants.{Lower}
 use Rattle.lsp.specs.declared.response.ResponseError.{ResponseError}
-use Rattle.lsp.specs.declared.response.ResponseError.TheVariants.{NotJson, InvalidRequest, MethodNotFound, InvalidParams, NotInitialized, NotOpen, DocumentLost, TooLarge, OutOfMemory}
+use Rattle.lsp.specs.declared.response.ResponseError.TheVariants.{NotJson, InvalidRequest, MethodNotFound, InvalidParams, NotInitialized, TooLarge, OutOfMemory}
 
 -- the result of a request, or why it has none
 abbrev pub RequestOutcome : Type 0
@@ -25,6 +27,11 @@ abbrev pub of_source : SourceError → ResponseError
 of_source (Lower lowering.OutOfMemory) = OutOfMemory
 of_source _ = TooLarge
 
+-- why a text is not read
+abbrev pub of_read : ReadError → ResponseError
+of_read read.TooLong = TooLarge
+of_read read.OutOfMemory = OutOfMemory
+
 -- the number that the protocol has for an error
 abbrev pub error_code : ResponseError → ℤ
 error_code NotJson = negsuc 32699
@@ -33,8 +40,6 @@ error_code MethodNotFound = negsuc 32600
 error_code (InvalidParams pointer) = negsuc 32601
 error_code OutOfMemory = negsuc 32602
 error_code NotInitialized = negsuc 32001
-error_code NotOpen = negsuc 32601
-error_code DocumentLost = negsuc 32802
 error_code TooLarge = negsuc 32802
 
 -- what is said of it, without the place of what has the wrong form
@@ -45,8 +50,6 @@ error_words MethodNotFound = codes "no such method"
 error_words (InvalidParams pointer) = codes "wrong form at "
 error_words OutOfMemory = codes "out of memory"
 error_words NotInitialized = codes "initialize comes first"
-error_words NotOpen = codes "the document is not open"
-error_words DocumentLost = codes "the document was lost: save it, or open it again"
 error_words TooLarge = codes "the text is too large"
 
 abbrev pub error_message : ResponseError → List ℕ

@@ -1,10 +1,10 @@
 -- A server: what stands between messages, what messages do, and what they are answered with.
-use Rattle.std.specs.Prelude.{◌≡◌, ◌⊎◌, ℕ, Bool, true, false, List, [], ◌∷◌, codes, if◌then◌else◌, Option, Some, None, is_some, option_map, Result, Ok, Err}
+use Rattle.std.specs.Prelude.{◌≡◌, ◌⊎◌, ℕ, Bool, true, false, List, [], ◌∷◌, codes, if◌then◌else◌, Option, Some, None, is_some, option_map, Ok, Err}
 use Rattle.serde_json.specs.Data.{Data, null, boolean, string, array, object, no_items, no_members, member}
 use Rattle.serde_json.specs.View.{items_of}
 use Rattle.serde_json.specs.Written.{compact_text}
 use Rattle.list_forms.specs.Lines.{count_form}
-use Rattle.hir_input_json.specs.Reading.{Reading, right, wrong}
+use Rattle.hir_input_json.specs.Reading.{Reading, right, wrong, ◌>>=◌}
 use Rattle.item_tree_request.specs.Requests.{IsJsonText}
 use Rattle.message_stream.specs.Answers.{Conduct}
 use Rattle.message_stream.specs.Messages.{Told, whole, too_long, no_memory}
@@ -17,19 +17,20 @@ use Rattle.itemtree_commands.specs.declared.trees.SourceTree.{SourceTree}
 use Rattle.itemtree_commands.specs.declared.trees.SourceError.{SourceError}
 use Rattle.lsp.specs.Messages.{Incoming, request, notification, response, no_message, incoming}
 use Rattle.lsp.specs.Clients.{client_of, encoding}
-use Rattle.lsp.specs.Documents.{Document, Documents, all_lost, document_in, known_document, with_document, with_text, without_document, open_form, named_version, saved_text, uri_form, uri_in}
-use Rattle.lsp.specs.Changes.{changes_form, changes_read, document_after}
+use Rattle.lsp.specs.Documents.{Document, Documents, asked_document, document_in, with_document, without_document, open_form, named_version, uri_in}
+use Rattle.lsp.specs.Changes.{text_with_changes, changes_form}
 use Rattle.lsp.specs.Diagnostics.{IsNoticeOf, closed_notice}
 use Rattle.lsp.specs.Methods.{request_method, notification_method}
+use Rattle.lsp.specs.Ranges.{AreAskedRanges, asked_places}
 use Rattle.lsp.specs.Responses.{RequestOutcome, of_source, response_data}
 use Rattle.lsp.specs.Surrogates.{surrogates_mended}
 use Rattle.lsp.specs.Symbols.{Page, tree_symbols}
 use Rattle.lsp.specs.Untold.{told_at_once, untold_after, untold_text}
 use Rattle.lsp.specs.declared.client.Client.{Client}
 use Rattle.lsp.specs.declared.method.RequestMethod.{RequestMethod}
-use Rattle.lsp.specs.declared.method.RequestMethod.TheVariants.{Initialize, Shutdown, DocumentSymbol, Unknown}
+use Rattle.lsp.specs.declared.method.RequestMethod.TheVariants.{Initialize, Shutdown, DocumentSymbol, Ranges, Unknown}
 use Rattle.lsp.specs.declared.method.NotificationMethod.{NotificationMethod}
-use Rattle.lsp.specs.declared.method.NotificationMethod.TheVariants.{Exit, DidOpen, DidChange, DidSave, DidClose, Other}
+use Rattle.lsp.specs.declared.method.NotificationMethod.TheVariants.{Exit, DidOpen, DidChange, DidClose, Other}
 use Rattle.lsp.specs.declared.response.ResponseError.{ResponseError}
 use Rattle.lsp.specs.declared.response.ResponseError.TheVariants.{NotJson, InvalidRequest, MethodNotFound, InvalidParams, NotInitialized, OutOfMemory}
 use Rattle.lsp.specs.declared.phase.Phase.{Phase}
@@ -72,21 +73,16 @@ refusal Running _ = None
 refusal ShutDown _ = Some InvalidRequest
 refusal (Ended is_clean) _ = Some InvalidRequest
 
--- which notifications about documents the server takes: also that one was saved, with its text
-abbrev pub sync_options : Data
-sync_options =
-    object
-    (member (codes "change") (count_form 2)
-    (member (codes "openClose") (boolean true)
-    (member (codes "save") (object (member (codes "includeText") (boolean true) no_members)) no_members)))
-
 -- what the server can do
 abbrev pub capabilities : Units → Data
 capabilities units =
     object
+    (member (codes "documentHighlightProvider") (boolean true)
     (member (codes "documentSymbolProvider") (boolean true)
+    (member (codes "foldingRangeProvider") (boolean true)
     (member (codes "positionEncoding") (string (encoding units))
-    (member (codes "textDocumentSync") sync_options no_members)))
+    (member (codes "selectionRangeProvider") (boolean true)
+    (member (codes "textDocumentSync") (object (member (codes "change") (count_form 2) (member (codes "openClose") (boolean true) no_members))) no_members))))))
 
 -- the answer that opens a conversation
 abbrev pub initialize_data : Units → Data
@@ -119,22 +115,18 @@ abbrev pub AreRustSymbols : Options → Client → Bool → List ℕ → Documen
 AreRustSymbols o c true uri d out = AreSymbolsOf o c uri d out
 AreRustSymbols o c false uri d out = out ≡ Ok (array no_items)
 
--- those of the document of a name, if a request may be about it
-abbrev pub AreKnownSymbols : Options → Client → List ℕ → Result Document ResponseError → RequestOutcome → Type 0
-AreKnownSymbols o c uri (Ok d) out = AreRustSymbols o c d.is_rust uri d out
-AreKnownSymbols o c uri (Err e) out = out ≡ Err e
-
 -- those that parameters ask for
-abbrev pub AreAskedSymbols : Options → Client → Documents → Reading (List ℕ) → RequestOutcome → Type 0
-AreAskedSymbols o c ds (wrong pointer) out = out ≡ Err (InvalidParams pointer)
-AreAskedSymbols o c ds (right uri) out = AreKnownSymbols o c uri (known_document (document_in ds uri)) out
+abbrev pub AreAskedSymbols : Options → Client → Reading (List ℕ × Document) → RequestOutcome → Type 0
+AreAskedSymbols o c (wrong pointer) out = out ≡ Err (InvalidParams pointer)
+AreAskedSymbols o c (right (uri, d)) out = AreRustSymbols o c d.is_rust uri d out
 
 -- what a request does that may stand where it stands: behind a shutdown nothing is told any more
 abbrev pub IsRequestDone : ServerState → RequestMethod → Data → ServerState → RequestOutcome → Type 0
 IsRequestDone s Initialize params new out =
     (new ≡ record { options = s.options; phase = Running; client = client_of params; documents = s.documents; untold = s.untold }) × (out ≡ Ok (initialize_data (client_of params).units))
 IsRequestDone s Shutdown params new out = (new ≡ record { options = s.options; phase = ShutDown; client = s.client; documents = s.documents; untold = [] }) × (out ≡ Ok null)
-IsRequestDone s DocumentSymbol params new out = (new ≡ s) × AreAskedSymbols s.options s.client s.documents (uri_form params) out
+IsRequestDone s DocumentSymbol params new out = (new ≡ s) × AreAskedSymbols s.options s.client (asked_document s.documents params) out
+IsRequestDone s (Ranges kind) params new out = (new ≡ s) × AreAskedRanges s.options s.client.units kind (asked_places kind s.documents params) out
 IsRequestDone s Unknown params new out = ⊥
 
 -- memory runs out for a request, and nothing changes
@@ -161,29 +153,26 @@ abbrev pub with_untold : ServerState → List (List ℕ) → ServerState
 with_untold s uris = record { options = s.options; phase = s.phase; client = s.client; documents = s.documents; untold = uris }
 
 -- a document after the changes that parameters ask for, by the units of the client
-abbrev pub changed_document : Units → Data → Document → Document
-changed_document units params d = document_after units (named_version params) (changes_read (changes_form params)) d
+abbrev pub changed_document : Units → Data → Document → Reading Document
+changed_document units params d = do
+  changes ← changes_form params
+  right (record { text = text_with_changes units changes d.text; is_rust = d.is_rust; version = named_version params })
 
 -- the documents after one is opened
 abbrev pub opened_documents : Documents → Reading (List ℕ × Document) → Documents
 opened_documents ds (wrong pointer) = ds
 opened_documents ds (right (uri, d)) = with_document ds uri d
 
--- after the document of a name, if it is open, is this one
-abbrev pub changed_by : Documents → List ℕ → Option Document → Documents
+-- after the document of a name is changed: one whose changes cannot be read is closed
+abbrev pub changed_by : Documents → List ℕ → Option (Reading Document) → Documents
 changed_by ds uri None = ds
-changed_by ds uri (Some d) = with_document (without_document ds uri) uri d
-
--- after that of a name is saved, with this text, if that is given
-abbrev pub saved_documents : Documents → List ℕ → Option (List ℕ) → Documents
-saved_documents ds uri None = ds
-saved_documents ds uri (Some text) = changed_by ds uri (option_map (with_text text) (document_in ds uri))
+changed_by ds uri (Some (wrong pointer)) = without_document ds uri
+changed_by ds uri (Some (right d)) = with_document (without_document ds uri) uri d
 
 -- the documents after a notification about that of a name, in an open conversation
 abbrev pub documents_named : ServerState → NotificationMethod → Data → List ℕ → Documents
 documents_named s DidOpen params uri = opened_documents s.documents (open_form params)
 documents_named s DidChange params uri = changed_by s.documents uri (option_map (changed_document s.client.units params) (document_in s.documents uri))
-documents_named s DidSave params uri = saved_documents s.documents uri (saved_text params)
 documents_named s DidClose params uri = without_document s.documents uri
 documents_named s _ params uri = s.documents
 
@@ -194,11 +183,6 @@ documents_by s method params (Some uri) = documents_named s method params uri
 
 abbrev pub documents_after : ServerState → NotificationMethod → Data → Documents
 documents_after s method params = documents_by s method params (uri_in params)
-
--- whether a notification can be read: of changes that cannot the user is told
-abbrev pub is_notice_read : NotificationMethod → Data → Bool
-is_notice_read DidChange params = is_some (changes_read (changes_form params))
-is_notice_read _ params = true
 
 -- what a notification about documents leaves in an open conversation
 abbrev pub noticed_documents : ServerState → NotificationMethod → Data → ServerState
@@ -227,19 +211,14 @@ state_behind s method params = noticed_in s.phase s method params
 
 -- ---- what is told of documents
 
--- what is told of a document that is known: what is wrong with it; of one that is lost nothing, so what was told of it stays
-abbrev pub IsToldOfKnown : ServerState → List ℕ → Bool → Document → List (List ℕ) → Type 0
-IsToldOfKnown s uri true d texts = texts ≡ []
-IsToldOfKnown s uri false d texts = (text : List ℕ) × IsNoticeOf s.options s.client.units uri d text × (texts ≡ text ∷ [])
-
--- and of one that is not open: that nothing is
+-- what is told of a document that is open, or not: what is wrong with it, or nothing
 abbrev pub IsToldOfOpen : ServerState → List ℕ → Option Document → List (List ℕ) → Type 0
 IsToldOfOpen s uri None texts = texts ≡ closed_notice uri ∷ []
-IsToldOfOpen s uri (Some d) texts = IsToldOfKnown s uri d.is_lost d texts
+IsToldOfOpen s uri (Some d) texts = (text : List ℕ) × IsNoticeOf s.options s.client.units uri d text × (texts ≡ text ∷ [])
 
--- what is told at once after a notification, in this phase
+-- what is told at once behind a notification, in this phase
 abbrev pub told_in_phase : Phase → NotificationMethod → Data → List (List ℕ)
-told_in_phase Running method params = told_at_once method (is_notice_read method params) (uri_in params)
+told_in_phase Running method params = told_at_once method (uri_in params)
 told_in_phase _ method params = []
 
 -- a rest where these are not told yet: the first is told, as it stands then, or that there is no memory for that, and the others are left
@@ -258,25 +237,13 @@ TellsAtRest s new texts = IsRestOf s.untold s new texts
 abbrev pub without_documents : ServerState → ServerState
 without_documents s = with_untold (with_documents s []) []
 
--- what the user is told where memory ran out for a notification about a document: each document is closed
-abbrev pub forgotten_text : List ℕ
-forgotten_text = codes "{\"jsonrpc\":\"2.0\",\"method\":\"window/showMessage\",\"params\":{\"message\":\"itemtree had no memory for a change: open the documents again\",\"type\":1}}"
-
--- memory ran out for a notification, and the user is told so
-abbrev pub IsForgotten : ServerState → ServerState → List (List ℕ) → Type 0
-IsForgotten old new texts = (new ≡ without_documents old) × (texts ≡ forgotten_text ∷ [])
-
--- each document is lost
-abbrev pub with_all_lost : ServerState → ServerState
-with_all_lost s = with_untold (with_documents s (all_lost s.documents)) []
-
--- what the user is told where a message is not read: it may have been a change of any document, so each is lost
+-- what the user is told where memory ran out, or a message was too long: a change may be lost, so each document is closed
 abbrev pub lost_text : List ℕ
-lost_text = codes "{\"jsonrpc\":\"2.0\",\"method\":\"window/showMessage\",\"params\":{\"message\":\"itemtree could not read a message, perhaps a change, so all documents are lost: save them, or open them again\",\"type\":1}}"
+lost_text = codes "{\"jsonrpc\":\"2.0\",\"method\":\"window/showMessage\",\"params\":{\"message\":\"open the documents again\",\"type\":1}}"
 
--- a message is not read, and the user is told so
+-- a message is lost, and the user is told so
 abbrev pub IsLost : ServerState → ServerState → List (List ℕ) → Type 0
-IsLost old new texts = (new ≡ with_all_lost old) × (texts ≡ lost_text ∷ [])
+IsLost old new texts = (new ≡ without_documents old) × (texts ≡ lost_text ∷ [])
 
 -- what is said where there is no memory for the text of an answer
 abbrev pub no_memory_text : List ℕ
@@ -298,15 +265,15 @@ IsRefusalText e texts = IsToldOutcome null (Err e) texts
 abbrev pub IsMessageStep : ServerState → Incoming → ServerState → List (List ℕ) → Type 0
 IsMessageStep old (request id method params) new texts = IsResponse old id (request_method method) params new texts
 IsMessageStep old (notification method params) new texts =
-    let m = notification_method method in ((new ≡ state_behind old m params) × (texts ≡ told_in_phase old.phase m params)) ⊎ IsForgotten old new texts
+    let m = notification_method method in ((new ≡ state_behind old m params) × (texts ≡ told_in_phase old.phase m params)) ⊎ IsLost old new texts
 IsMessageStep old response new texts = (new ≡ old) × (texts ≡ [])
 IsMessageStep old no_message new texts = (new ≡ old) × IsRefusalText InvalidRequest texts
 
--- the bytes are no JSON text: that is answered, and the user is told that each document is lost
+-- the bytes are no JSON text: a change may be lost, so each document is closed
 pub record HasNoJson (bytes : List ℕ) (old new : ServerState) (texts : List (List ℕ)) : Type 0 where
   pub none : (d : Data) → ¬ IsJsonText bytes d
-  pub loses : new ≡ with_all_lost old
-  pub refused : texts ≡ compact_text (response_data null (Err NotJson)) ∷ lost_text ∷ []
+  pub forgets : new ≡ without_documents old
+  pub refused : IsRefusalText NotJson texts
 
 -- the bytes are the JSON text of a value, which is a message
 pub record IsRead (bytes : List ℕ) (old new : ServerState) (texts : List (List ℕ)) : Type 0 where

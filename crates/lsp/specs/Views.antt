@@ -9,6 +9,8 @@ use Rattle.lsp.specs.declared.document.Document as code_document
 use Rattle.lsp.specs.declared.change.Change as code_change
 use Rattle.lsp.specs.declared.symbol.Symbol as code_symbol
 use Rattle.lsp.specs.Symbols.{Symbol}
+use Rattle.lsp.specs.declared.selection.Chain as code_chain
+use Rattle.lsp.specs.Selection.{Chain}
 use Rattle.lsp.specs.Messages.{Incoming, request, notification, response, no_message}
 use Rattle.lsp.specs.Documents.{Document, Documents}
 use Rattle.lsp.specs.Changes.{SpanChange}
@@ -22,7 +24,7 @@ incoming_view code_incoming.NoMessage = no_message
 
 -- a document as plain data
 abbrev pub document_view : code_document.Document → Document
-document_view d = record { text = d.text; is_rust = d.is_rust; version = d.version; is_lost = d.is_lost }
+document_view d = record { text = d.text; is_rust = d.is_rust; version = d.version }
 
 -- a document with its name as plain data
 abbrev pub document_entry_view : String Global × code_document.Document → List ℕ × Document
@@ -39,3 +41,7 @@ change_view c = record { span = c.span; text = string_bytes c.text }
 -- a symbol as plain data
 abbrev pub symbol_view : code_symbol.Symbol → Symbol
 symbol_view s = record { name = string_bytes s.name; detail = string_bytes s.detail; kind = s.kind; range = s.range; selection = s.selection }
+
+-- a range in others as plain data
+abbrev pub chain_view : code_chain.Chain → Chain
+chain_view c = record { range = c.range; value = view c.value }

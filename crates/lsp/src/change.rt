@@ -1,14 +1,14 @@
 //! Changes of a text.
-ghost use Rattle.std.specs.Prelude.{◌≡◌, codes, map, option_map, IfOk, IsCharBoundary, OnOk, string_bytes};
+ghost use Rattle.std.specs.Prelude.{◌≡◌, codes, map, IsCharBoundary, OnOk, string_bytes};
 ghost use Rattle.serde_json.specs.View.{items_view, view};
 ghost use Rattle.hir_input_json.specs.Forms.{each, list_of, maybe_at, required_at as required_form};
 ghost use Rattle.hir_input_json.specs.Held.{IsLeftWithout, object_held};
 ghost use Rattle.hir_input_json.specs.Reads.{Reads};
 ghost use Rattle.lsp.specs.Changes as spec;
 ghost use Rattle.lsp.specs.Positions.{span_form};
-ghost use Rattle.lsp.specs.Views.{change_view, document_view};
+ghost use Rattle.lsp.specs.Views.{change_view};
 
-use crate::document::{Document, text_at};
+use crate::document::text_at;
 use crate::position::{Span, span_of};
 use crate::text::LinedText;
 use hir_input_json::member::{Members, members_of, required_at, take_member};
@@ -66,36 +66,12 @@ fn changes_of(alloc: Global, value: Value) -> Result<Vec<Change>, Fault>
 }
 
 /// Takes the changes out that parameters ask for.
-fn changes_at(alloc: Global, members: &mut Members) -> Result<Vec<Change>, Fault>
+pub(crate) fn changes_at(alloc: Global, members: &mut Members) -> Result<Vec<Change>, Fault>
     ensures reads { Reads (λ v. map change_view v.items) result
         (required_form (codes "contentChanges") (list_of spec.content_change_form) (object_held members.old)) }
 {
     let found = required_at(alloc, members, "contentChanges")?;
     changes_of(alloc, found).in_member(alloc, "contentChanges")
-}
-
-/// The changes that parameters ask for.
-fn changes_in(alloc: Global, params: Value) -> Result<Vec<Change>, Fault>
-    ensures { Reads (λ v. map change_view v.items) result (spec.changes_form (view params)) }
-{
-    let mut members = members_of(alloc, params)?;
-    changes_at(alloc, &mut members)
-}
-
-/// Those of them that can be read.
-///
-/// # Errors
-///
-/// Only if memory runs out.
-pub(crate) fn changes_read(alloc: Global, params: Value) -> Result<Option<Vec<Change>>, AllocError>
-    ensures { let read = spec.changes_read (spec.changes_form (view params)) in
-        IfOk result (λ changes. option_map (λ v. map change_view v.items) changes ≡ read) }
-{
-    match changes_in(alloc, params) {
-        Ok(changes) => Ok(Some(changes)),
-        Err(Fault::WrongForm { .. }) => Ok(None),
-        Err(Fault::OutOfMemory) => Err(AllocError),
-    }
 }
 
 /// Puts a text between two places of another, in whichever order these are.
@@ -116,84 +92,40 @@ fn replace_between(
     text.replace(alloc, to, from, new)
 }
 
-/// Puts a text in the place of a span.
-fn replace_span(
-    alloc: Global,
-    units: Units,
-    span: Span,
-    new: &str,
-    text: &mut LinedText,
-) -> Result<(), AllocError>
-    ensures { OnOk result (text.new ≡ spec.replaced_span units span new.now text.old) }
-{
-    let from = text.byte(units, span.start);
-    let to = text.byte(units, span.end);
-    replace_between(alloc, from, to, new, text)
-}
-
-/// Makes a change of a document: one that is lost is known again by a whole text, and by nothing else.
+/// Makes a change of a text.
 fn make_change(
     alloc: Global,
     units: Units,
     change: Change,
-    document: &mut Document,
+    text: &mut LinedText,
 ) -> Result<(), AllocError>
     ensures { let c = change_view change in
-        let changed = spec.changed_in units c.span c.text (document_view document.old) in
-        OnOk result (document_view document.new ≡ changed) }
+        OnOk result (text.new ≡ spec.changed_in units c.span c.text text.old) }
 {
     let Some(span) = change.span else {
-        document.text = LinedText::new(alloc, change.text)?;
-        document.is_lost = false;
+        *text = LinedText::new(alloc, change.text)?;
         return Ok(());
     };
-    if document.is_lost {
-        return Ok(());
-    }
-    replace_span(alloc, units, span, &change.text, &mut document.text)
+    let from = text.byte(units, span.start);
+    let to = text.byte(units, span.end);
+    replace_between(alloc, from, to, &change.text, text)
 }
 
-/// Makes changes of a document, each in the text that the one before left.
+/// Makes changes of a text, each in the text that the one before left.
 ///
 /// # Errors
 ///
 /// Only if memory runs out.
-fn make_changes(
+pub(crate) fn make_changes(
     alloc: Global,
     units: Units,
     changes: Vec<Change>,
-    document: &mut Document,
+    text: &mut LinedText,
 ) -> Result<(), AllocError>
-    ensures { let changed = spec.with_changes units (map change_view changes.items) (document_view document.old) in
-        OnOk result (document_view document.new ≡ changed) }
+    ensures { OnOk result (text.new ≡ spec.text_with_changes units (map change_view changes.items) text.old) }
 {
     for change in changes {
-        make_change(alloc, units, change, document)?;
+        make_change(alloc, units, change, text)?;
     }
-    Ok(())
-}
-
-/// Makes changes of a document that were read, with a version; after those that were not it is lost.
-///
-/// # Errors
-///
-/// Only if memory runs out.
-pub(crate) fn make_read_changes(
-    alloc: Global,
-    units: Units,
-    version: Option<i64>,
-    changes: Option<Vec<Change>>,
-    document: &mut Document,
-) -> Result<(), AllocError>
-    ensures { let read = option_map (λ v. map change_view v.items) changes in
-        let changed = spec.document_after units version read (document_view document.old) in
-        OnOk result (document_view document.new ≡ changed) }
-{
-    let Some(changes) = changes else {
-        document.is_lost = true;
-        return Ok(());
-    };
-    make_changes(alloc, units, changes, document)?;
-    document.version = version;
     Ok(())
 }

@@ -9,7 +9,7 @@ ghost use Rattle.lsp.specs.Views.{document_view};
 
 use crate::document::Document;
 use crate::position::{Span, span_value};
-use crate::text::TextPlaces;
+use crate::text::LinedText;
 use item_tree::LowerError;
 use itemtree_commands::{Options, SourceError, problems, repeated_imports};
 use line_index::Units;
@@ -58,12 +58,13 @@ fn told_value(
 /// The object of a problem, which stands at its place: editors mark the word there.
 fn diagnostic(
     alloc: Global,
-    text: &TextPlaces<'_>,
+    units: Units,
+    text: &LinedText,
     problem: SourceProblem,
 ) -> Result<Value, AllocError>
-    ensures { IfOk result (λ value. view value ≡ spec.diagnostic text.now.units text.now.text problem) }
+    ensures { IfOk result (λ value. view value ≡ spec.diagnostic units text.now problem) }
 {
-    let start = text.place(problem.at);
+    let start = text.place(units, problem.at);
     let span = Span { start, end: start };
     told_value(alloc, span, problem_message(problem.kind), ERROR)
 }
@@ -96,30 +97,31 @@ fn repeat_bytes(spot: Option<Spot>) -> TextRange
 /// The object of an import that repeats an earlier one.
 fn repeat_diagnostic(
     alloc: Global,
-    text: &TextPlaces<'_>,
+    units: Units,
+    text: &LinedText,
     repeat: &RepeatedImport,
 ) -> Result<Value, AllocError>
     ensures { IfOk result (λ value. view value
-        ≡ spec.repeat_diagnostic text.now.units text.now.text (repeated_import_view repeat.now)) }
+        ≡ spec.repeat_diagnostic units text.now (repeated_import_view repeat.now)) }
 {
     let message = repeat_message(alloc, repeat)?;
-    let span = text.span(repeat_bytes(repeat.spot));
+    let span = text.span(units, repeat_bytes(repeat.spot));
     told_value(alloc, span, &message, WARNING)
 }
 
 /// Adds the objects of imports that repeat earlier ones.
 fn push_repeats(
     alloc: Global,
-    text: &TextPlaces<'_>,
+    units: Units,
+    text: &LinedText,
     repeats: &[RepeatedImport],
     values: &mut Vec<Value>,
 ) -> Result<(), AllocError>
-    ensures { let each = spec.repeat_diagnostic text.now.units text.now.text in
-        let own = map each (map repeated_import_view repeats.now) in
+    ensures { let own = map (spec.repeat_diagnostic units text.now) (map repeated_import_view repeats.now) in
         OnOk result (map view values.new.items ≡ map view values.old.items ++ own) }
 {
     for repeat in repeats {
-        values.push(repeat_diagnostic(alloc, text, repeat)?)?;
+        values.push(repeat_diagnostic(alloc, units, text, repeat)?)?;
     }
     Ok(())
 }
@@ -127,15 +129,15 @@ fn push_repeats(
 /// The objects of problems.
 fn diagnostics(
     alloc: Global,
-    text: &TextPlaces<'_>,
+    units: Units,
+    text: &LinedText,
     problems: &[SourceProblem],
 ) -> Result<Vec<Value>, AllocError>
-    ensures { let each = spec.diagnostic text.now.units text.now.text in
-        IfOk result (λ values. map view values.items ≡ map each problems.now) }
+    ensures { IfOk result (λ values. map view values.items ≡ map (spec.diagnostic units text.now) problems.now) }
 {
     let mut values = Vec::with_capacity(alloc, problems.len())?;
     for problem in problems {
-        values.push(diagnostic(alloc, text, *problem)?)?;
+        values.push(diagnostic(alloc, units, text, *problem)?)?;
     }
     Ok(values)
 }
@@ -253,9 +255,8 @@ pub(crate) fn notice_text(
 {
     let problems = problems_of(alloc, options, document)?;
     let repeats = repeats_of(alloc, options, document)?;
-    let places = document.text.places(alloc, units)?;
-    let mut told = diagnostics(alloc, &places, &problems)?;
-    push_repeats(alloc, &places, &repeats, &mut told)?;
+    let mut told = diagnostics(alloc, units, &document.text, &problems)?;
+    push_repeats(alloc, units, &document.text, &repeats, &mut told)?;
     let value = notice(alloc, uri, document.version, told)?;
     let text = plain_text(alloc, &value)?;
     Ok(text)

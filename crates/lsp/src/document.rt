@@ -1,5 +1,5 @@
 //! Open documents.
-ghost use Rattle.std.specs.Prelude.{◌≡◌, codes, option_and_then, option_map, string_bytes, Err, MatchResult, Ok, OnOk};
+ghost use Rattle.std.specs.Prelude.{◌≡◌, codes, option_and_then, option_map, string_bytes, OnOk};
 ghost use Rattle.serde_json.specs.View.{view};
 ghost use Rattle.hir_input_json.specs.Forms.{required_at as required_form, text_form};
 ghost use Rattle.hir_input_json.specs.Held.{IsLeftWithout, object_held};
@@ -7,7 +7,6 @@ ghost use Rattle.hir_input_json.specs.Reads.{Reads};
 ghost use Rattle.lsp.specs.Documents as spec;
 ghost use Rattle.lsp.specs.Views.{document_view, documents_view, document_entry_view};
 
-use crate::response::ResponseError;
 use crate::text::LinedText;
 use hir_input_json::member::{Members, field, members_of, required_at, take_member};
 use hir_input_json::{Fault, ReadIn};
@@ -23,8 +22,6 @@ pub(crate) struct Document {
     pub(crate) is_rust: bool,
     /// The version that the client gave last, if it gave one.
     pub(crate) version: Option<i64>,
-    /// Whether a change of it may not have been read, so that its text may be another.
-    pub(crate) is_lost: bool,
 }
 
 /// The open documents, by their names.
@@ -70,7 +67,6 @@ fn opened_document(alloc: Global, value: Value) -> Result<(String, Document), Fa
         text: LinedText::new(alloc, text)?,
         is_rust,
         version,
-        is_lost: false,
     };
     Ok((uri, document))
 }
@@ -110,7 +106,7 @@ pub(crate) fn named_at(alloc: Global, members: &mut Members, key: &str) -> Resul
 }
 
 /// The name of the document that parameters are about.
-pub(crate) fn asked_uri(alloc: Global, params: Value) -> Result<String, Fault>
+fn asked_uri(alloc: Global, params: Value) -> Result<String, Fault>
     ensures { Reads string_bytes result (spec.uri_form (view params)) }
 {
     let mut members = members_of(alloc, params)?;
@@ -145,38 +141,33 @@ pub(crate) fn document_in<'d>(documents: &'d Documents, uri: &str) -> Option<&'d
     documents.get(uri)
 }
 
-/// The document of a name, if a request may be about it.
-pub(crate) fn known_document<'d>(
+/// The document of a name, which has to be open.
+pub(crate) fn open_document<'d>(
+    alloc: Global,
     documents: &'d Documents,
     uri: &str,
-) -> Result<&'d Document, ResponseError>
-    ensures { let known = spec.known_document (spec.document_in (documents_view documents.now) uri.now) in
-        MatchResult result (λ d. known ≡ Ok (document_view d.now)) (λ e. known ≡ Err e) }
+) -> Result<&'d Document, Fault>
+    ensures { Reads (λ d. document_view d.now) result
+        (spec.open_document (spec.document_in (documents_view documents.now) uri.now)) }
 {
-    let Some(document) = document_in(documents, uri) else {
-        return Err(ResponseError::NotOpen);
-    };
-    if document.is_lost {
-        return Err(ResponseError::DocumentLost);
+    match document_in(documents, uri) {
+        Some(document) => Ok(document),
+        None => Err(Fault::at(alloc, "uri").in_member(alloc, "textDocument")),
     }
-    Ok(document)
 }
 
-/// The text of a document, as a notification that it was saved has it.
-pub(crate) fn saved_text(params: &Value) -> Option<&str>
-    ensures { option_map (λ text. text.now) result ≡ spec.saved_text (view params.now) }
+/// The document that parameters are about, with its name.
+pub(crate) fn asked_document(
+    alloc: Global,
+    documents: &Documents,
+    params: Value,
+) -> Result<(String, &Document), Fault>
+    ensures { Reads (λ asked. (string_bytes asked.0, document_view asked.1.now)) result
+        (spec.asked_document (documents_view documents.now) (view params)) }
 {
-    params.get("text").and_then(Value::as_str)
-}
-
-/// Marks each document as lost. Takes no memory.
-pub(crate) fn lose_documents(documents: &mut Documents)
-    ensures { documents_view documents.new ≡ spec.all_lost (documents_view documents.old) }
-{
-    documents.retain(|_, document| {
-        document.is_lost = true;
-        true
-    });
+    let uri = asked_uri(alloc, params)?;
+    let document = open_document(alloc, documents, &uri)?;
+    Ok((uri, document))
 }
 
 /// Closes the document of a name, if it is open.

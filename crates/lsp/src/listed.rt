@@ -5,14 +5,14 @@ ghost use Rattle.serde_json.specs.View.{items_view, view};
 ghost use Rattle.serde_json.specs.Written.{has_float};
 ghost use Rattle.source_rows.specs.ListedViews.{reading_view};
 ghost use Rattle.itemtree_commands.specs.Answers.{HasNoList};
-ghost use Rattle.lsp.specs.Documents.{document_in, known_document as known, uri_form};
+ghost use Rattle.lsp.specs.Documents.{asked_document as asked};
 ghost use Rattle.lsp.specs.Inner.{IsPlainOutcome, request_outcome_view, listed_reading};
 ghost use Rattle.lsp.specs.Servers as spec;
 ghost use Rattle.lsp.specs.Views.{document_view, documents_view};
 ghost use Rattle.lsp.specs.declared.response.ResponseError.TheVariants.{OutOfMemory};
 
 use crate::client::Client;
-use crate::document::{Document, Documents, asked_uri, known_document};
+use crate::document::{Document, Documents, asked_document};
 use crate::response::Outcome;
 use crate::symbols::{Page, tree_symbols};
 use itemtree_commands::{Options, SourceError, listed_tree};
@@ -68,59 +68,21 @@ pub(crate) fn document_symbols(
     ensures plain { IfOk result (λ value. has_float (view value) ≡ false) }
     ensures refused { IfErr result (HasNoList options.now document.now.text) }
 {
-    let listed = listed_tree(alloc, document.text.text(), options)?;
-    let places = document.text.places(alloc, client.units)?;
+    let text = &document.text;
+    let listed = listed_tree(alloc, text.text(), options)?;
     let page = Page {
-        text: &places,
+        units: client.units,
+        text,
         flat_in: flat_in(client, uri),
         tree: &listed.source.tree,
-        reading: reading_of(options, document.text.text(), listed.mended.as_ref()),
+        reading: reading_of(options, text.text(), listed.mended.as_ref()),
         edition: &options.edition,
     };
     let symbols = tree_symbols(alloc, page, &listed.source.places)?;
     Ok(list_value(symbols))
 }
 
-/// The symbols of a document of a name, which has none where it is not Rust.
-fn rust_symbols(
-    alloc: Global,
-    options: &Options,
-    client: Client,
-    uri: &str,
-    document: &Document,
-) -> Outcome
-    ensures symbols { let out = request_outcome_view result in
-        let d = document_view document.now in
-        (out ≡ Err OutOfMemory) ⊎ spec.AreRustSymbols options.now client d.is_rust uri.now d out }
-    ensures plain { IsPlainOutcome result }
-{
-    if !document.is_rust {
-        return Ok(list_value(Vec::new(alloc)));
-    }
-    let symbols = document_symbols(alloc, options, client, uri, document)?;
-    Ok(symbols)
-}
-
-/// Those of the document of a name, if a request may be about it.
-fn named_symbols(
-    alloc: Global,
-    options: &Options,
-    client: Client,
-    documents: &Documents,
-    uri: &str,
-) -> Outcome
-    ensures symbols { let out = request_outcome_view result in
-        let known = known (document_in (documents_view documents.now) uri.now) in
-        (out ≡ Err OutOfMemory) ⊎ spec.AreKnownSymbols options.now client uri.now known out }
-    ensures plain { IsPlainOutcome result }
-{
-    match known_document(documents, uri) {
-        Ok(document) => rust_symbols(alloc, options, client, uri, document),
-        Err(error) => Err(error),
-    }
-}
-
-/// Those of the document that parameters are about.
+/// The symbols of the document that parameters are about, which has none where it is not Rust.
 pub(crate) fn asked_symbols(
     alloc: Global,
     options: &Options,
@@ -129,9 +91,13 @@ pub(crate) fn asked_symbols(
     params: Value,
 ) -> Outcome
     ensures symbols { let out = request_outcome_view result in let ds = documents_view documents.now in
-        (out ≡ Err OutOfMemory) ⊎ spec.AreAskedSymbols options.now client ds (uri_form (view params)) out }
+        (out ≡ Err OutOfMemory) ⊎ spec.AreAskedSymbols options.now client (asked ds (view params)) out }
     ensures plain { IsPlainOutcome result }
 {
-    let uri = asked_uri(alloc, params)?;
-    named_symbols(alloc, options, client, documents, &uri)
+    let (uri, document) = asked_document(alloc, documents, params)?;
+    if !document.is_rust {
+        return Ok(list_value(Vec::new(alloc)));
+    }
+    let symbols = document_symbols(alloc, options, client, &uri, document)?;
+    Ok(symbols)
 }

@@ -2,12 +2,21 @@
 ghost use Rattle.std.specs.Prelude.{◌≡◌};
 ghost use Rattle.lsp.specs.Methods as spec;
 
+/// Which ranges are asked for: what may be folded, what is around positions, or what belongs to one.
+#[derive(Clone, Copy, Debug)]
+pub enum RangeKind {
+    Folding,
+    Selection,
+    Highlight,
+}
+
 /// What a request asks for.
 #[derive(Clone, Copy, Debug)]
 pub enum RequestMethod {
     Initialize,
     Shutdown,
     DocumentSymbol,
+    Ranges { kind: RangeKind },
     Unknown,
 }
 
@@ -17,7 +26,6 @@ pub enum NotificationMethod {
     Exit,
     DidOpen,
     DidChange,
-    DidSave,
     DidClose,
     /// What is passed over.
     Other,
@@ -31,6 +39,15 @@ pub(crate) fn request_method(word: &str) -> RequestMethod
         "initialize" => RequestMethod::Initialize,
         "shutdown" => RequestMethod::Shutdown,
         "textDocument/documentSymbol" => RequestMethod::DocumentSymbol,
+        "textDocument/foldingRange" => RequestMethod::Ranges {
+            kind: RangeKind::Folding,
+        },
+        "textDocument/selectionRange" => RequestMethod::Ranges {
+            kind: RangeKind::Selection,
+        },
+        "textDocument/documentHighlight" => RequestMethod::Ranges {
+            kind: RangeKind::Highlight,
+        },
         _ => RequestMethod::Unknown,
     }
 }
@@ -43,7 +60,6 @@ pub(crate) fn notification_method(word: &str) -> NotificationMethod
         "exit" => NotificationMethod::Exit,
         "textDocument/didOpen" => NotificationMethod::DidOpen,
         "textDocument/didChange" => NotificationMethod::DidChange,
-        "textDocument/didSave" => NotificationMethod::DidSave,
         "textDocument/didClose" => NotificationMethod::DidClose,
         _ => NotificationMethod::Other,
     }

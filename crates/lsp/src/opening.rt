@@ -24,9 +24,12 @@ pub(crate) fn initialize_value(alloc: Global, units: Units) -> Result<Value, All
     let encoding = encoding(units);
     json!(in alloc; {
         "capabilities": {
+            "documentHighlightProvider": true,
             "documentSymbolProvider": true,
+            "foldingRangeProvider": true,
             "positionEncoding": encoding,
-            "textDocumentSync": {"change": 2, "openClose": true, "save": {"includeText": true}}
+            "selectionRangeProvider": true,
+            "textDocumentSync": {"change": 2, "openClose": true}
         },
         "serverInfo": {"name": "itemtree"}
     })

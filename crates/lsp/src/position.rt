@@ -64,7 +64,7 @@ fn whole_at(alloc: Global, members: &Members, key: &str) -> Result<usize, Fault>
 }
 
 /// A position.
-fn place_of(alloc: Global, value: Value) -> Result<Point, Fault>
+pub(crate) fn place_of(alloc: Global, value: Value) -> Result<Point, Fault>
     ensures { Reads (λ place. place) result (spec.position_form (view value)) }
 {
     let members = members_of(alloc, value)?;
@@ -77,7 +77,7 @@ fn place_of(alloc: Global, value: Value) -> Result<Point, Fault>
 }
 
 /// The position at a key.
-fn position_at(alloc: Global, members: &mut Members, key: &str) -> Result<Point, Fault>
+pub(crate) fn position_at(alloc: Global, members: &mut Members, key: &str) -> Result<Point, Fault>
     ensures reads { Reads (λ place. place) result (required_at key.now spec.position_form (object_held members.old)) }
     ensures left { OnOk result (IsLeftWithout key.now members.old members.new) }
 {

@@ -12,6 +12,7 @@ use item_tree::LowerError;
 use itemtree_commands::SourceError;
 use message_stream::Answer;
 use serde_json::{Map, Value, json, put};
+use source_rows::ReadError;
 use std::alloc::{AllocError, AllocFailed, Global};
 
 const NO_MEMORY: &str =
@@ -30,10 +31,6 @@ pub enum ResponseError {
     InvalidParams { pointer: Pointer },
     /// The conversation is not opened.
     NotInitialized,
-    /// The document that is asked about is not open.
-    NotOpen,
-    /// It is open, and a change of it was not read.
-    DocumentLost,
     /// The document is too long, or has too many items.
     TooLarge,
     /// The allocator refused memory.
@@ -93,6 +90,20 @@ impl From<SourceError> for ResponseError {
     }
 }
 
+impl From<ReadError> for ResponseError {
+    ghost use Rattle.std.specs.Prelude.{◌≡◌};
+    ghost use Rattle.lsp.specs.Responses.{of_read};
+
+    ghost from_gives = { λ error e. e ≡ of_read error };
+
+    fn from(error: ReadError) -> ResponseError {
+        match error {
+            ReadError::TooLong => ResponseError::TooLarge,
+            ReadError::OutOfMemory => ResponseError::OutOfMemory,
+        }
+    }
+}
+
 impl ResponseError {
     /// The number that the protocol has for it.
     fn code(&self) -> i64
@@ -102,10 +113,10 @@ impl ResponseError {
             ResponseError::NotJson => -32700,
             ResponseError::InvalidRequest => -32600,
             ResponseError::MethodNotFound => -32601,
-            ResponseError::InvalidParams { .. } | ResponseError::NotOpen => -32602,
+            ResponseError::InvalidParams { .. } => -32602,
             ResponseError::OutOfMemory => -32603,
             ResponseError::NotInitialized => -32002,
-            ResponseError::TooLarge | ResponseError::DocumentLost => -32803,
+            ResponseError::TooLarge => -32803,
         }
     }
 
@@ -120,8 +131,6 @@ impl ResponseError {
             ResponseError::InvalidParams { .. } => "wrong form at ",
             ResponseError::OutOfMemory => "out of memory",
             ResponseError::NotInitialized => "initialize comes first",
-            ResponseError::NotOpen => "the document is not open",
-            ResponseError::DocumentLost => "the document was lost: save it, or open it again",
             ResponseError::TooLarge => "the text is too large",
         }
     }
@@ -172,11 +181,7 @@ fn response_value(alloc: Global, id: Value, outcome: Outcome) -> Result<Value, A
 /// # Errors
 ///
 /// Only if memory runs out.
-pub(crate) fn response_text(
-    alloc: Global,
-    id: Value,
-    outcome: Outcome,
-) -> Result<String, AllocError>
+fn response_text(alloc: Global, id: Value, outcome: Outcome) -> Result<String, AllocError>
     requires id { has_float (view id) ≡ false }
     requires outcome { IsPlainOutcome outcome }
     ensures { IfOk result (λ text. string_bytes text

@@ -1,35 +1,37 @@
 //! A language server for open texts.
-ghost use Rattle.std.specs.Prelude.{◌≡◌, ◌⊎◌, ◌∷◌, [], Err, IfOk, OnErr, OnOk, Some, false, map, string_bytes};
+ghost use Rattle.std.specs.Prelude.{◌≡◌, ◌⊎◌, ◌∷◌, [], Err, IfOk, OnErr, Some, false, map, string_bytes};
+ghost use Rattle.serde_json.specs.Data.{null};
 ghost use Rattle.serde_json.specs.View.{view};
 ghost use Rattle.serde_json.specs.Written.{has_float};
 ghost use Rattle.message_stream.specs.Answers.{answer_texts};
 ghost use Rattle.lsp.specs.Documents.{document_in as spec_document_in, uri_in};
-ghost use Rattle.lsp.specs.Inner.{IsPlainOutcome, IsSameButDocuments, request_outcome_view};
+ghost use Rattle.lsp.specs.Inner.{IsPlainOutcome, IsSameButDocuments, OnRead, request_outcome_view};
 ghost use Rattle.lsp.specs.declared.response.ResponseError.TheVariants.{OutOfMemory};
 ghost use Rattle.lsp.specs.declared.method.RequestMethod.TheVariants.{Initialize};
 ghost use Rattle.lsp.specs.Messages.{incoming, notification};
 ghost use Rattle.lsp.specs.Methods.{request_method};
 ghost use Rattle.lsp.specs.Servers as spec;
-ghost use Rattle.lsp.specs.Untold.{told_at_once, told_of_name, untold_named};
+ghost use Rattle.lsp.specs.Untold.{told_at_once, untold_named};
 
 use crate::client::{Client, client_of};
 use crate::diagnostics::{closed_text, notice_text};
-use crate::document::{Documents, close_document, document_in, lose_documents, uri_in};
-use crate::edits::{change_document, open_document, save_document};
+use crate::document::{Documents, close_document, document_in, uri_in};
+use crate::edits::{change_document, open_document};
 use crate::listed::asked_symbols;
 use crate::message::{Incoming, message_of};
 use crate::method::{NotificationMethod, RequestMethod, notification_method, request_method};
 use crate::opening::initialize_value;
 use crate::phase::{Phase, ended_phase, refusal};
+use crate::ranges::ranges;
 use crate::response::{Outcome, ResponseError, refusal_of, response};
 use crate::surrogates::mend;
 use crate::untold::{put_name, take_name};
-use crate::warnings::{FORGOTTEN, LOST, UNREAD, UNTOLD, not_json_texts, one_text};
+use hir_input_json::Fault;
 use itemtree_commands::{Options, SourceError};
 use line_index::Units;
 use message_stream::{Answer, Message, Service};
 use serde_json::Value;
-use std::alloc::{AllocError, Global};
+use std::alloc::Global;
 use std::collections::BTreeMap;
 use std::marker::Model;
 
@@ -76,6 +78,12 @@ impl Model for Server {
       untold = map string_bytes x.untold.items;
     } };
 }
+
+const LOST: &str =
+    r#"{"jsonrpc":"2.0","method":"window/showMessage","params":{"message":"open the documents again","type":1}}"#;
+
+const UNTOLD: &str =
+    r#"{"jsonrpc":"2.0","method":"window/showMessage","params":{"message":"no memory to tell problems","type":2}}"#;
 
 impl Server {
     /// A server of a conversation that is not opened, which reads texts under these options. Takes no memory.
@@ -143,85 +151,67 @@ impl Server {
             RequestMethod::DocumentSymbol => {
                 asked_symbols(alloc, &self.options, self.client, &self.documents, params)
             }
+            RequestMethod::Ranges { kind } => {
+                let units = self.client.units;
+                ranges(alloc, &self.options, units, kind, &self.documents, params)
+            }
             RequestMethod::Unknown => Err(ResponseError::MethodNotFound),
         }
     }
 
-    /// Does what a notification about the document of a name tells, and gives whether it could be read.
+    /// Does what a notification about the document of a name tells.
     fn edit(
         &mut self,
         alloc: Global,
         method: NotificationMethod,
         uri: &str,
         params: Value,
-    ) -> Result<bool, AllocError>
-        ensures edited { OnOk result (self.new
+    ) -> Result<(), Fault>
+        ensures edited { OnRead result (self.new
             ≡ spec.with_documents self.old (spec.documents_named self.old method (view params) uri.now)) }
-        ensures read { IfOk result (λ is_read. is_read ≡ spec.is_notice_read method (view params)) }
         ensures state { IsSameButDocuments self.old self.new }
     {
         match method {
-            NotificationMethod::DidOpen => {
-                open_document(alloc, &mut self.documents, params)?;
-                Ok(true)
-            }
+            NotificationMethod::DidOpen => open_document(alloc, &mut self.documents, params),
             NotificationMethod::DidChange => {
                 change_document(alloc, self.client.units, &mut self.documents, uri, params)
             }
-            NotificationMethod::DidSave => {
-                save_document(alloc, &mut self.documents, uri, &params)?;
-                Ok(true)
-            }
             NotificationMethod::DidClose => {
                 close_document(&mut self.documents, uri);
-                Ok(true)
+                Ok(())
             }
-            NotificationMethod::Exit | NotificationMethod::Other => Ok(true),
+            NotificationMethod::Exit | NotificationMethod::Other => Ok(()),
         }
     }
 
-    /// What is told of the document of a name: of one that is lost nothing.
-    fn notice_of(&self, alloc: Global, uri: &str) -> Result<Vec<String>, SourceError>
-        ensures { IfOk result (λ texts. let docs = self.now.documents in
-            spec.IsToldOfOpen self.now uri.now (spec_document_in docs uri.now) (map string_bytes texts.items)) }
+    /// What is told of the document of a name.
+    fn notice_of(&self, alloc: Global, uri: &str) -> Result<String, SourceError>
+        ensures { IfOk result (λ text. let docs = self.now.documents in
+            spec.IsToldOfOpen self.now uri.now (spec_document_in docs uri.now) (string_bytes text ∷ [])) }
     {
-        let Some(document) = document_in(&self.documents, uri) else {
-            return Ok(one_text(alloc, closed_text(alloc, uri)?)?);
-        };
-        if document.is_lost {
-            return Ok(Vec::new(alloc));
+        match document_in(&self.documents, uri) {
+            Some(document) => notice_text(alloc, &self.options, self.client.units, uri, document),
+            None => Ok(closed_text(alloc, uri)?),
         }
-        let (options, units) = (&self.options, self.client.units);
-        let text = notice_text(alloc, options, units, uri, document)?;
-        Ok(one_text(alloc, text)?)
     }
 
-    /// Notes that the problems of the document of a name are not told yet, and gives what is told at once.
+    /// Notes that the problems of the document of a name are not told yet; of one that is closed it tells none at once.
     fn note(
         &mut self,
         alloc: Global,
         method: NotificationMethod,
-        is_read: bool,
         uri: String,
     ) -> Result<Vec<String>, ResponseError>
         ensures noted { IfOk result (λ _. self.new
             ≡ spec.with_untold self.old (untold_named self.old.untold method (string_bytes uri))) }
-        ensures told { IfOk result (λ texts. map string_bytes texts.items
-            ≡ told_of_name method is_read (string_bytes uri)) }
+        ensures told { IfOk result
+            (λ texts. map string_bytes texts.items ≡ told_at_once method (Some (string_bytes uri))) }
         ensures state { IsSameButDocuments self.old self.new }
     {
         let mut texts = Vec::new(alloc);
         match method {
-            NotificationMethod::DidOpen | NotificationMethod::DidSave => {
+            NotificationMethod::DidOpen | NotificationMethod::DidChange => {
                 put_name(&mut self.untold, uri)?;
-                Ok(texts)
-            }
-            NotificationMethod::DidChange => {
-                put_name(&mut self.untold, uri)?;
-                if is_read {
-                    return Ok(texts);
-                }
-                texts.push(String::from_str(alloc, UNREAD)?)?;
                 Ok(texts)
             }
             NotificationMethod::DidClose => {
@@ -242,16 +232,17 @@ impl Server {
     ) -> Result<Vec<String>, ResponseError>
         ensures noticed { IfOk result (λ _. self.new ≡ spec.noticed_documents self.old method (view params)) }
         ensures told { IfOk result
-            (λ texts. map string_bytes texts.items
-            ≡ told_at_once method (spec.is_notice_read method (view params)) (uri_in (view params))) }
+            (λ texts. map string_bytes texts.items ≡ told_at_once method (uri_in (view params))) }
         ensures state { IsSameButDocuments self.old self.new }
     {
         let Some(uri) = uri_in(&params) else {
             return Ok(Vec::new(alloc));
         };
         let uri = String::from_str(alloc, uri)?;
-        let is_read = self.edit(alloc, method, &uri, params)?;
-        self.note(alloc, method, is_read, uri)
+        if let Err(Fault::OutOfMemory) = self.edit(alloc, method, &uri, params) {
+            return Err(ResponseError::OutOfMemory);
+        }
+        self.note(alloc, method, uri)
     }
 
     /// Does what a notification tells, and gives what is told then.
@@ -287,25 +278,9 @@ impl Server {
 
     /// Closes all documents, and tells the user.
     fn forget(&mut self) -> Answer
-        ensures { spec.IsForgotten self.old self.new (answer_texts result) }
-    {
-        self.close_all();
-        Answer::Fixed(FORGOTTEN)
-    }
-
-    /// Marks each document as lost: a change of it may not have been read.
-    fn lose_all(&mut self)
-        ensures { self.new ≡ spec.with_all_lost self.old }
-    {
-        lose_documents(&mut self.documents);
-        self.untold.clear();
-    }
-
-    /// Marks each document as lost, and tells the user.
-    fn lose(&mut self) -> Answer
         ensures { spec.IsLost self.old self.new (answer_texts result) }
     {
-        self.lose_all();
+        self.close_all();
         Answer::Fixed(LOST)
     }
 
@@ -352,13 +327,10 @@ impl Server {
     {
         match Value::from_slice(alloc, bytes) {
             Ok(value) => self.answer_value(alloc, value),
-            Err(error) if error.is_memory() => self.lose(),
+            Err(error) if error.is_memory() => self.forget(),
             Err(_) => {
-                self.lose_all();
-                match not_json_texts(alloc) {
-                    Ok(texts) => Answer::Several(texts),
-                    Err(_) => Answer::Fixed(LOST),
-                }
+                self.close_all();
+                refusal_of(alloc, ResponseError::NotJson)
             }
         }
     }
@@ -375,7 +347,7 @@ impl Service for Server {
                 mend(&mut bytes);
                 self.answer_bytes(alloc, &bytes)
             }
-            Message::TooLong | Message::OutOfMemory => self.lose(),
+            Message::TooLong | Message::OutOfMemory => self.forget(),
         }
     }
 
@@ -385,7 +357,7 @@ impl Service for Server {
         }
         let uri = self.untold.remove(0);
         match self.notice_of(alloc, &uri) {
-            Ok(texts) => Answer::Several(texts),
+            Ok(text) => Answer::Made(text),
             Err(_) => Answer::Fixed(UNTOLD),
         }
     }

@@ -6,9 +6,10 @@ ghost use Rattle.lsp.specs.Symbols as spec;
 ghost use Rattle.lsp.specs.Views.{symbol_view};
 
 use crate::position::{Span, span_value};
-use crate::text::TextPlaces;
+use crate::text::LinedText;
 use hir_input::{AstIdKind, Edition, Name};
 use item_tree::RawVisibility;
+use line_index::Units;
 use rust_items::{ItemPlace, MemberKind};
 use rust_paths::TextRange;
 use serde_json::{Map, Value, put};
@@ -60,18 +61,18 @@ fn member_symbol(kind: MemberKind) -> u32
 /// The object of a symbol with others in it.
 pub(crate) fn symbol_value(
     alloc: Global,
-    text: &TextPlaces<'_>,
+    units: Units,
+    text: &LinedText,
     symbol: Symbol,
     inner: Vec<Value>,
 ) -> Result<Value, AllocError>
     ensures { let s = symbol_view symbol in
-        let object = spec.symbol_data text.now.units text.now.text s (items_view inner.items) in
-        IfOk result (λ value. view value ≡ object) }
+        IfOk result (λ value. view value ≡ spec.symbol_data units text.now s (items_view inner.items)) }
 {
     let mut members = Map::new(alloc);
-    let selection = span_value(alloc, text.span(symbol.selection))?;
+    let selection = span_value(alloc, text.span(units, symbol.selection))?;
     put(&mut members, alloc, "selectionRange", selection)?;
-    let range = span_value(alloc, text.span(symbol.range))?;
+    let range = span_value(alloc, text.span(units, symbol.range))?;
     put(&mut members, alloc, "range", range)?;
     put(&mut members, alloc, "name", Value::String(symbol.name))?;
     put(&mut members, alloc, "kind", Value::from(symbol.kind))?;

@@ -14,9 +14,10 @@ use crate::symbol::{
     Symbol, detail_words, information_value, item_selection, listed_symbol, symbol_kind,
     symbol_name, symbol_value,
 };
-use crate::text::TextPlaces;
+use crate::text::LinedText;
 use hir_input::Edition;
 use item_tree::{ItemTree, ModItemId};
+use line_index::Units;
 use rust_items::ItemPlace;
 use serde_json::Value;
 use source_listing::{Item, item_of};
@@ -27,7 +28,8 @@ use tree_walk::{children, is_file_enabled};
 /// What symbols are told of.
 #[derive(Clone, Copy)]
 pub(crate) struct Page<'a> {
-    pub(crate) text: &'a TextPlaces<'a>,
+    pub(crate) units: Units,
+    pub(crate) text: &'a LinedText,
     /// The name of the document, where each symbol stands alone.
     pub(crate) flat_in: Option<&'a str>,
     pub(crate) tree: &'a ItemTree,
@@ -71,10 +73,10 @@ fn push_told(
         OnOk result (map view out.new.items ≡ map view out.old.items ++ told) }
 {
     let Some(uri) = page.flat_in else {
-        out.push(symbol_value(alloc, page.text, symbol, inner)?)?;
+        out.push(symbol_value(alloc, page.units, page.text, symbol, inner)?)?;
         return Ok(());
     };
-    let span = page.text.span(symbol.range);
+    let span = page.text.span(page.units, symbol.range);
     out.push(information_value(alloc, uri, container, span, symbol)?)?;
     out.append(&mut inner)?;
     Ok(())

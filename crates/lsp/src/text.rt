@@ -4,7 +4,7 @@ ghost use Rattle.line_index.specs.Starts.{replace_range};
 ghost use Rattle.lsp.specs.Bytes as spec;
 
 use crate::position::Span;
-use line_index::{LineEnds, LineStarts, Point, PointIndex, Style, Units};
+use line_index::{LineEnds, LineStarts, Point, Style, Units};
 use rust_paths::TextRange;
 use std::alloc::{AllocError, Global};
 use std::marker::Model;
@@ -86,23 +86,21 @@ impl LinedText {
         self.starts.byte(protocol_style(units), &self.text, place)
     }
 
-    /// The text, to find where many of its bytes stand. It costs one pass over the text.
-    ///
-    /// # Errors
-    ///
-    /// Only if memory runs out.
-    pub(crate) fn places(&self, alloc: Global, units: Units) -> Result<TextPlaces<'_>, AllocError>
-        ensures units { IfOk result (λ places. places.units ≡ units) }
-        ensures text { IfOk result (λ places. places.text ≡ self.now) }
+    /// Where a byte stands.
+    pub(crate) fn place(&self, units: Units, at: usize) -> Point
+        ensures { result ≡ spec.place_of_byte units self.now at }
     {
-        let points = self
-            .starts
-            .points(alloc, protocol_style(units), &self.text)?;
-        Ok(TextPlaces {
-            units,
-            text: &self.text,
-            points,
-        })
+        self.starts.point(protocol_style(units), &self.text, at)
+    }
+
+    /// Where a range of bytes stands.
+    pub(crate) fn span(&self, units: Units, range: TextRange) -> Span
+        ensures { result ≡ spec.range_span units self.now range }
+    {
+        Span {
+            start: self.place(units, range.start),
+            end: self.place(units, range.end),
+        }
     }
 
     /// Puts another text in the place of a range.
@@ -128,52 +126,5 @@ impl LinedText {
             .replace(alloc, LineEnds::All, &self.text, from, to, with)?;
         self.text = made;
         Ok(())
-    }
-}
-
-/// Finds where bytes of a text stand by the units of a client, each at the cost of a part of the text.
-#[derive(Drop)]
-pub(crate) struct TextPlaces<'t> {
-    units: Units,
-    text: &'t str,
-    points: PointIndex<'t>,
-}
-
-impl<'t> Model for TextPlaces<'t> {
-    ghost use Rattle.std.specs.Prelude.{◌≡◌};
-    ghost use Rattle.std.specs.Coded.{codes};
-    ghost use Rattle.lsp.specs.Bytes.{UnitText, protocol_style};
-
-    ghost Value = { UnitText };
-
-    ghost coded = { Prim.hlevel codes };
-
-    ghost view = { λ x. record { units = x.units; text = x.text.now } };
-
-    ghost invariant = { λ x. (x.points.style ≡ protocol_style x.units) × (x.points.text ≡ x.text.now) };
-}
-
-impl<'t> TextPlaces<'t> {
-    pub(crate) fn text(&self) -> &'t str
-        ensures { result.now ≡ self.now.text }
-    {
-        self.text
-    }
-
-    /// Where a byte stands.
-    pub(crate) fn place(&self, at: usize) -> Point
-        ensures { result ≡ spec.place_of_byte self.now.units self.now.text at }
-    {
-        self.points.point(at)
-    }
-
-    /// Where a range of bytes stands.
-    pub(crate) fn span(&self, range: TextRange) -> Span
-        ensures { result ≡ spec.range_span self.now.units self.now.text range }
-    {
-        Span {
-            start: self.place(range.start),
-            end: self.place(range.end),
-        }
     }
 }

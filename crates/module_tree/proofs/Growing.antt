@@ -1,5 +1,6 @@
 -- When more is known, what was found stays found.
-use Rattle.std.proofs.Common.{◌≡◌, ℕ, zero, suc, Bool, true, false, List, [], ◌∷◌, ◌++◌, All, Option, Some, None, refl, ap, sym, subst, ◌∙◌, if◌then◌else◌}
+use Rattle.std.proofs.Common.{◌≡◌, ◌==◌, ℕ, zero, suc, Bool, true, false, List, [], ◌∷◌, ◌++◌, All, Option, Some, None, refl, ap, sym, subst, ◌∙◌, if◌then◌else◌}
+use Rattle.std.specs.List.{list_any}
 use Rattle.std.proofs.lemmas.List.Concat.{flat_map-cons}
 use Rattle.std.proofs.lemmas.List.Elements.{All-append, All-cons, All-head, All-nil}
 use Rattle.item_tree.specs.Node.{outline, inline, extern_block, Node, leaf, parent, Forest, empty, more, Unfolding}
@@ -8,7 +9,7 @@ use Rattle.module_tree.specs.declared.{data.ModuleChoice.ModuleChoice, data.Unre
 use Rattle.module_tree.specs.declared.data.ModuleOrigin.TheVariants.{File as file_origin, Inline as inline_origin}
 use Rattle.module_tree.specs.declared.{known.KnownPath.KnownPath, known.KnownPath.TheVariants.File, known.KnownPath.TheVariants.Missing}
 use Rattle.module_tree.specs.Laws.{GrowsTo, same_nothing, same_module, same_unresolved, now_nothing, now_module, now_unresolved, still_wanted, StaysKnown, FoundStays, EndsOnceKnown}
-use Rattle.module_tree.specs.Modules.{ModuleFiles, ModItem, CandidateFile, Resolution, wants, fails, finds, ModulePlace, Findings, nothing_found, found_module, unresolved_mod, wanted_paths, Enter, candidates, mod_item, unknown_path, unknown_paths, file_found, files_found, is_path_around, resolution_by, resolution_of, outline_module, is_followed, inside_inline, inside_file, node_found, forest_found, enter_files, depth_limit, root_place, root_id, root_found, crate_found}
+use Rattle.module_tree.specs.Modules.{ModuleFiles, Dir, ModItem, CandidateFile, Resolution, wants, fails, finds, ModulePlace, Findings, nothing_found, found_module, unresolved_mod, wanted_paths, Enter, candidates, mod_item, unknown_path, unknown_paths, file_found, files_found, resolution_by, resolution_of, outline_module, is_followed, inside_inline, inside_file, node_found, forest_found, enter_files, depth_limit, root_place, root_id, root_found, crate_found}
 use Rattle.module_tree.proofs.Wanting.{all_wanted, wanted_are}
 
 none_left : {A : Type 0} (xs ys : List A) → xs ++ ys ≡ [] → xs ≡ []
@@ -48,58 +49,58 @@ module _ (choice : ModuleChoice) (less fuller : ModuleFiles) (root : ℕ) (stays
       let same : fuller.known c.path ≡ less.known c.path = same_path c.path (less.known c.path) refl here in
       let rest = same_paths cs (none_right (unknown_path (less.known c.path) c.path) (unknown_paths less cs) split) in (
         flat_map-cons (λ c. unknown_path (fuller.known c.path) c.path) c cs ∙ ap (λ o. unknown_path o c.path ++ unknown_paths fuller cs) same ∙ ap (λ xs. xs ++ unknown_paths fuller cs) here ∙ rest.0,
-        flat_map-cons (λ c. file_found (fuller.known c.path) c) c cs ∙ ap (λ o. file_found o c ++ files_found fuller cs) same ∙ ap (λ xs. file_found (less.known c.path) c ++ xs) rest.1
-            ∙ sym (flat_map-cons (λ c. file_found (less.known c.path) c) c cs),
+        flat_map-cons (λ c. file_found (fuller.known c.path) c.dir) c cs ∙ ap (λ o. file_found o c.dir ++ files_found fuller cs) same ∙ ap (λ xs. file_found (less.known c.path) c.dir ++ xs) rest.1
+            ∙ sym (flat_map-cons (λ c. file_found (less.known c.path) c.dir) c cs),
       )
 
-  abbrev HasTree : ℕ × CandidateFile → Type 0
+  abbrev HasTree : ℕ × Dir → Type 0
   HasTree found = fuller.tree found.0 ≡ less.tree found.0
 
-  same_tree : (path : List ℕ) (c : CandidateFile) (o : Option KnownPath) → less.known path ≡ o → All HasTree (file_found o c)
-  same_tree path c None e = All-nil HasTree
-  same_tree path c (Some Missing) e = All-nil HasTree
-  same_tree path c (Some (File file)) e = All-cons HasTree (file, c) [] (stays.trees path file e) (All-nil HasTree)
+  same_tree : (path : List ℕ) (dir : Dir) (o : Option KnownPath) → less.known path ≡ o → All HasTree (file_found o dir)
+  same_tree path dir None e = All-nil HasTree
+  same_tree path dir (Some Missing) e = All-nil HasTree
+  same_tree path dir (Some (File file)) e = All-cons HasTree (file, dir) [] (stays.trees path file e) (All-nil HasTree)
 
   same_trees : (cs : List CandidateFile) → All HasTree (files_found less cs)
   same_trees [] = All-nil HasTree
   same_trees (c ∷ cs) =
-      subst (All HasTree) (sym (flat_map-cons (λ c. file_found (less.known c.path) c) c cs))
-      (All-append HasTree (file_found (less.known c.path) c) (files_found less cs) (same_tree c.path c (less.known c.path) refl) (same_trees cs))
+      subst (All HasTree) (sym (flat_map-cons (λ c. file_found (less.known c.path) c.dir) c cs))
+      (All-append HasTree (file_found (less.known c.path) c.dir) (files_found less cs) (same_tree c.path c.dir (less.known c.path) refl) (same_trees cs))
 
   -- ---- what is found of a file
 
   -- what was found stays found where its tree does
   abbrev Agree : Enter → Enter → Type 0
-  Agree enter enter' = (p : ModulePlace) (m : ModItem) (file : ℕ) (c : CandidateFile) (f f' : Findings) → fuller.tree file ≡ less.tree file → GrowsTo f f' → GrowsTo (enter p m file c f) (enter' p m file c f')
+  Agree enter enter' = (p : ModulePlace) (m : ModItem) (file : ℕ) (dir : Dir) (f f' : Findings) → fuller.tree file ≡ less.tree file → GrowsTo f f' → GrowsTo (enter p m file dir f) (enter' p m file dir f')
 
   -- and it may be found where a path was wanted
   abbrev Appears : Enter → Type 0
-  Appears enter' = (path : List ℕ) (paths : List (List ℕ)) (p : ModulePlace) (m : ModItem) (file : ℕ) (c : CandidateFile) (f f' : Findings) → GrowsTo f f' → GrowsTo (wanted_paths (path ∷ paths) f) (enter' p m file c f')
+  Appears enter' = (path : List ℕ) (paths : List (List ℕ)) (p : ModulePlace) (m : ModItem) (file : ℕ) (dir : Dir) (f f' : Findings) → GrowsTo f f' → GrowsTo (wanted_paths (path ∷ paths) f) (enter' p m file dir f')
 
   module _ (enter enter' : Enter) (agree : Agree enter enter') (appears : Appears enter') (p : ModulePlace) (m : ModItem) (f f' : Findings) (g : GrowsTo f f') where
     wanted_grows : (path : List ℕ) (paths : List (List ℕ)) (r : Resolution) → GrowsTo (wanted_paths (path ∷ paths) f) (outline_module enter' p m r f')
     wanted_grows path paths (wants others) = still_wanted path paths others g
     wanted_grows path paths (fails reason) = now_unresolved path paths m reason _ g
-    wanted_grows path paths (finds file c) = appears path paths p m file c f f' g
+    wanted_grows path paths (finds file dir) = appears path paths p m file dir f f' g
 
-    one_grows : (one : ℕ × CandidateFile) (is_circle : Bool) → HasTree one
-        → GrowsTo (outline_module enter p m (if is_circle then fails Circle else finds one.0 one.1) f) (outline_module enter' p m (if is_circle then fails Circle else finds one.0 one.1) f')
+    one_grows : (one : ℕ × Dir) (is_around : Bool) → HasTree one
+        → GrowsTo (outline_module enter p m (if is_around then fails Circle else finds one.0 one.1) f) (outline_module enter' p m (if is_around then fails Circle else finds one.0 one.1) f')
     one_grows one true e = same_unresolved m Circle _ g
     one_grows one false e = agree p m one.0 one.1 f f' e g
 
-    known_grows : (found : List (ℕ × CandidateFile)) → All HasTree found → GrowsTo (outline_module enter p m (resolution_by p.around [] found) f) (outline_module enter' p m (resolution_by p.around [] found) f')
+    known_grows : (found : List (ℕ × Dir)) → All HasTree found → GrowsTo (outline_module enter p m (resolution_by p.files [] found) f) (outline_module enter' p m (resolution_by p.files [] found) f')
     known_grows [] all = same_unresolved m NoFile _ g
-    known_grows (one ∷ []) all = one_grows one (is_path_around p.around one.1.path) (All-head HasTree one [] all)
+    known_grows (one ∷ []) all = one_grows one (list_any (λ file. file == one.0) p.files) (All-head HasTree one [] all)
     known_grows (one ∷ other ∷ found) all = same_unresolved m TwoFiles _ g
 
     outlined_grows : (cs : List CandidateFile) (unknown : List (List ℕ)) → unknown_paths less cs ≡ unknown
-        → GrowsTo (outline_module enter p m (resolution_by p.around unknown (files_found less cs)) f) (outline_module enter' p m (resolution_of fuller p.around cs) f')
-    outlined_grows cs (path ∷ paths) e = wanted_grows path paths (resolution_of fuller p.around cs)
+        → GrowsTo (outline_module enter p m (resolution_by p.files unknown (files_found less cs)) f) (outline_module enter' p m (resolution_of fuller p.files cs) f')
+    outlined_grows cs (path ∷ paths) e = wanted_grows path paths (resolution_of fuller p.files cs)
     outlined_grows cs [] e =
         let same = same_paths cs e in
-        let before = outline_module enter p m (resolution_by p.around [] (files_found less cs)) f in
-        subst (λ (u : List (List ℕ)). GrowsTo before (outline_module enter' p m (resolution_by p.around u (files_found fuller cs)) f')) (sym same.0)
-        (subst (λ (found : List (ℕ × CandidateFile)). GrowsTo before (outline_module enter' p m (resolution_by p.around [] found) f')) (sym same.1) (known_grows (files_found less cs) (same_trees cs)))
+        let before = outline_module enter p m (resolution_by p.files [] (files_found less cs)) f in
+        subst (λ (u : List (List ℕ)). GrowsTo before (outline_module enter' p m (resolution_by p.files u (files_found fuller cs)) f')) (sym same.0)
+        (subst (λ (found : List (ℕ × Dir)). GrowsTo before (outline_module enter' p m (resolution_by p.files [] found) f')) (sym same.1) (known_grows (files_found less cs) (same_trees cs)))
 
   module _ (enter enter' : Enter) (agree : Agree enter enter') (appears : Appears enter') where
     mutual
@@ -123,14 +124,14 @@ module _ (choice : ModuleChoice) (less fuller : ModuleFiles) (root : ℕ) (stays
   if_appears false path paths m file inside f f' g = now_nothing path paths g
 
   entered_appears : (depth : ℕ) → Appears (enter_files choice fuller depth)
-  entered_appears zero path paths p m file c f f' g = now_unresolved path paths m TooDeep _ g
-  entered_appears (suc depth) path paths p m file c f f' g = if_appears (is_followed choice (is_file_enabled (fuller.tree file))) path paths m file _ f f' g
+  entered_appears zero path paths p m file dir f f' g = now_unresolved path paths m TooDeep _ g
+  entered_appears (suc depth) path paths p m file dir f f' g = if_appears (is_followed choice (is_file_enabled (fuller.tree file))) path paths m file _ f f' g
 
   entered_agrees : (depth : ℕ) → Agree (enter_files choice less depth) (enter_files choice fuller depth)
-  entered_agrees zero p m file c f f' e g = same_unresolved m TooDeep _ g
-  entered_agrees (suc depth) p m file c f f' e g =
-      let q = inside_file p file c in
-      subst (λ (u : Unfolding). GrowsTo (enter_files choice less (suc depth) p m file c f)
+  entered_agrees zero p m file dir f f' e g = same_unresolved m TooDeep _ g
+  entered_agrees (suc depth) p m file dir f f' e g =
+      let q = inside_file p file dir in
+      subst (λ (u : Unfolding). GrowsTo (enter_files choice less (suc depth) p m file dir f)
       (if is_followed choice (is_file_enabled u) then found_module m.name (file_origin m.id) file (forest_found choice fuller (enter_files choice fuller depth) q u.forest) f' else f')) (sym e)
       (if_grows (is_followed choice (is_file_enabled (less.tree file))) _ _ f f'
       (same_module m.name (file_origin m.id) file (forest_grows (enter_files choice less depth) (enter_files choice fuller depth) (entered_agrees depth) (entered_appears depth) q (less.tree file).forest) g) g)

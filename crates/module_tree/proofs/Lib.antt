@@ -2,6 +2,4 @@ pub mod BorrowedNames
 pub mod Growing
 pub mod Limits
 pub mod ModItems
-pub mod UnsureItems
-pub mod UnsureMetas
 pub mod Wanting

@@ -14,7 +14,7 @@ use Rattle.tree_walk.specs.{Rows.hold_no_false, Rows.is_enabled, Rows.is_file_en
 use Rattle.module_tree.specs.declared.data.{ModuleChoice.ModuleChoice, ModuleId.ModuleId}
 use Rattle.module_tree.specs.declared.data.{ModuleChoice.TheVariants.Enabled, ModuleChoice.TheVariants.All, ModuleOrigin.TheVariants.File as file_origin, ModuleOrigin.TheVariants.Inline as inline_origin}
 use Rattle.module_tree.specs.Inner.{id_modules, mod_path_at}
-use Rattle.module_tree.specs.Modules.{ModuleFiles, CandidateFile, ModItem, ModulePlace, Findings, nothing_found, found_module, unresolved_mod, wanted_paths, FoundModules, Enter, Resolution, wants, fails, finds, mod_item, path_attr, inside_inline, inside_file, outline_module, resolution, is_followed, node_found, forest_found, enter_files, depth_limit, root_place, next_id, module_in, with_module, with_unresolved, with_wanted, with_found, root_id, root_found, crate_modules}
+use Rattle.module_tree.specs.Modules.{ModuleFiles, Dir, ModItem, ModulePlace, Findings, nothing_found, found_module, unresolved_mod, wanted_paths, FoundModules, Enter, Resolution, wants, fails, finds, mod_item, path_attr, inside_inline, inside_file, outline_module, resolution, is_followed, node_found, forest_found, enter_files, depth_limit, root_place, next_id, module_in, with_module, with_unresolved, with_wanted, with_found, root_id, root_found, crate_modules}
 
 -- a `mod` by its parts
 abbrev pub item_of : List ℕ → FileAstId → Option (List ℕ) → ModItem
@@ -64,19 +64,19 @@ grows id (wanted_paths paths behind) s = grows id behind (with_wanted paths s)
 module _ (choice : ModuleChoice) (files : ModuleFiles) where
   -- what is found in front of others is added before them
   abbrev pub Splits : Enter → Type 0
-  Splits enter = (id : ModuleId) (p : ModulePlace) (m : ModItem) (file : ℕ) (c : CandidateFile) (behind : Findings) (s : FoundModules)
-      → with_found id (enter p m file c behind) s ≡ with_found id behind (with_found id (enter p m file c nothing_found) s)
+  Splits enter = (id : ModuleId) (p : ModulePlace) (m : ModItem) (file : ℕ) (dir : Dir) (behind : Findings) (s : FoundModules)
+      → with_found id (enter p m file dir behind) s ≡ with_found id behind (with_found id (enter p m file dir nothing_found) s)
 
   pub entered_splits : (depth : ℕ) → Splits (enter_files choice files depth)
-  entered_splits zero id p m file c behind s = refl
-  entered_splits (suc depth) id p m file c behind s = if_splits id (is_followed choice (is_file_enabled (files.tree file))) _ _ behind s refl
+  entered_splits zero id p m file dir behind s = refl
+  entered_splits (suc depth) id p m file dir behind s = if_splits id (is_followed choice (is_file_enabled (files.tree file))) _ _ behind s refl
 
   module _ (enter : Enter) (splits : Splits enter) (id : ModuleId) where
     outlined_splits : (p : ModulePlace) (m : ModItem) (r : Resolution) (behind : Findings) (s : FoundModules)
         → with_found id (outline_module enter p m r behind) s ≡ with_found id behind (with_found id (outline_module enter p m r nothing_found) s)
     outlined_splits p m (wants paths) behind s = refl
     outlined_splits p m (fails reason) behind s = refl
-    outlined_splits p m (finds file c) behind s = splits id p m file c behind s
+    outlined_splits p m (finds file dir) behind s = splits id p m file dir behind s
 
     node_splits : (p : ModulePlace) (n : Node) (behind : Findings) (s : FoundModules)
         → with_found id (node_found choice files enter p n behind) s ≡ with_found id behind (with_found id (node_found choice files enter p n nothing_found) s)
@@ -245,22 +245,22 @@ followed Enabled = refl
 followed All = refl
 
 -- a file's items are walked with one level less
-entered_less : (choice : ModuleChoice) (files : ModuleFiles) (depth : ℕ) (p : ModulePlace) (m : ModItem) (file : ℕ) (c : CandidateFile) → depth ≢ 0 → enter_files choice files depth p m file c nothing_found
-    ≡ (if is_followed choice (is_file_enabled (files.tree file)) then found_module m.name (file_origin m.id) file (forest_found choice files (enter_files choice files (depth - 1)) (inside_file p file c) (files.tree file).forest) nothing_found else nothing_found)
-entered_less choice files zero p m file c e = absurd (e refl)
-entered_less choice files (suc depth) p m file c e = let less : suc depth - 1 ≡ depth = omega arith in rw less refl
+entered_less : (choice : ModuleChoice) (files : ModuleFiles) (depth : ℕ) (p : ModulePlace) (m : ModItem) (file : ℕ) (dir : Dir) → depth ≢ 0 → enter_files choice files depth p m file dir nothing_found
+    ≡ (if is_followed choice (is_file_enabled (files.tree file)) then found_module m.name (file_origin m.id) file (forest_found choice files (enter_files choice files (depth - 1)) (inside_file p file dir) (files.tree file).forest) nothing_found else nothing_found)
+entered_less choice files zero p m file dir e = absurd (e refl)
+entered_less choice files (suc depth) p m file dir e = let less : suc depth - 1 ≡ depth = omega arith in rw less refl
 
-module _ (choice : ModuleChoice) (files : ModuleFiles) (depth : ℕ) (id : ModuleId) (p : ModulePlace) (m : ModItem) (file : ℕ) (c : CandidateFile) (s : FoundModules) (some : depth ≢ 0) where
+module _ (choice : ModuleChoice) (files : ModuleFiles) (depth : ℕ) (id : ModuleId) (p : ModulePlace) (m : ModItem) (file : ℕ) (dir : Dir) (s : FoundModules) (some : depth ≢ 0) where
   abbrev pub Enters : FoundModules → Type 0
-  Enters t = t ≡ with_found id (enter_files choice files depth p m file c nothing_found) s
+  Enters t = t ≡ with_found id (enter_files choice files depth p m file dir nothing_found) s
 
   abbrev of_tree : Unfolding → Bool → FoundModules
-  of_tree u on = with_found id (if on then found_module m.name (file_origin m.id) file (forest_found choice files (enter_files choice files (depth - 1)) (inside_file p file c) u.forest) nothing_found else nothing_found) s
+  of_tree u on = with_found id (if on then found_module m.name (file_origin m.id) file (forest_found choice files (enter_files choice files (depth - 1)) (inside_file p file dir) u.forest) nothing_found else nothing_found) s
 
   tree_enters : (u : Unfolding) (on : Bool) → u ≡ files.tree file → on ≡ is_followed choice (is_file_enabled u) → Enters (of_tree u on)
   tree_enters u on e f =
       ap (of_tree u) (f ∙ ap (λ (w : Unfolding). is_followed choice (is_file_enabled w)) e) ∙ ap (λ (w : Unfolding). of_tree w (is_followed choice (is_file_enabled (files.tree file)))) e
-      ∙ ap (λ (f : Findings). with_found id f s) (sym (entered_less choice files depth p m file c some))
+      ∙ ap (λ (f : Findings). with_found id f s) (sym (entered_less choice files depth p m file dir some))
 
   -- a file without a tree is a module without items
   pub missing_enters : nothing ≡ files.tree file → Enters (with_module (module_in id m.name (file_origin m.id) file) s)
@@ -272,17 +272,17 @@ module _ (choice : ModuleChoice) (files : ModuleFiles) (depth : ℕ) (id : Modul
 
   -- and else its items are walked
   pub file_grows : (u : Unfolding) → u ≡ files.tree file → true ≡ is_followed choice (is_file_enabled u)
-      → length (with_module (module_in id m.name (file_origin m.id) file) s).modules ≤ length (with_found id (enter_files choice files depth p m file c nothing_found) s).modules
+      → length (with_module (module_in id m.name (file_origin m.id) file) s).modules ≤ length (with_found id (enter_files choice files depth p m file dir nothing_found) s).modules
   file_grows u e f =
       let with_it = with_module (module_in id m.name (file_origin m.id) file) s in
-      subst (λ (all : FoundModules). length with_it.modules ≤ length all.modules) (tree_enters u true e f) (grows (next_id s) (forest_found choice files (enter_files choice files (depth - 1)) (inside_file p file c) u.forest) with_it)
+      subst (λ (all : FoundModules). length with_it.modules ≤ length all.modules) (tree_enters u true e f) (grows (next_id s) (forest_found choice files (enter_files choice files (depth - 1)) (inside_file p file dir) u.forest) with_it)
 
   pub items_enter : (u : Unfolding) → u ≡ files.tree file → true ≡ is_followed choice (is_file_enabled u) → (is : List ℕ) → StandFor u is u.forest → (j : ModuleId) → j ≡ next_id s
-      → (q : ModulePlace) → q ≡ inside_file p file c → (t : FoundModules) → t ≡ with_module (module_in id m.name (file_origin m.id) file) s
+      → (q : ModulePlace) → q ≡ inside_file p file dir → (t : FoundModules) → t ≡ with_module (module_in id m.name (file_origin m.id) file) s
       → Enters (fold (id_modules choice files (enter_files choice files (depth - 1)) j q u) t is)
   items_enter u e f is g j d q h t k =
       let less = enter_files choice files (depth - 1) in
-      let inside = inside_file p file c in
+      let inside = inside_file p file dir in
       let with_it = with_module (module_in id m.name (file_origin m.id) file) s in
       ap (λ w. fold (id_modules choice files less w q u) t is) d ∙ ap (λ w. fold (id_modules choice files less (next_id s) w u) t is) h ∙ ap (λ w. fold (id_modules choice files less (next_id s) inside u) w is) k
       ∙ fold_stands choice files less (entered_splits choice files (depth - 1)) (next_id s) inside u is u.forest with_it g

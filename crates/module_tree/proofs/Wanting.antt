@@ -1,12 +1,13 @@
 -- Nothing is known of a path that is wanted.
-use Rattle.std.proofs.Common.{◌≡◌, ℕ, zero, suc, Bool, true, false, List, [], ◌∷◌, ◌++◌, All, Option, Some, None, refl, ap, sym, subst, ◌∙◌, append-nil, append_assoc, if◌then◌else◌}
+use Rattle.std.proofs.Common.{◌≡◌, ◌==◌, ℕ, zero, suc, Bool, true, false, List, [], ◌∷◌, ◌++◌, All, Option, Some, None, refl, ap, sym, subst, ◌∙◌, append-nil, append_assoc, if◌then◌else◌}
+use Rattle.std.specs.List.{list_any}
 use Rattle.std.proofs.lemmas.List.Concat.{flat_map-cons}
 use Rattle.std.proofs.lemmas.List.Elements.{All-append, All-cons, All-nil}
 use Rattle.item_tree.specs.Node.{outline, inline, extern_block, Node, leaf, parent, Forest, empty, more}
 use Rattle.tree_walk.specs.Rows.{hold_no_false, is_file_enabled}
 use Rattle.module_tree.specs.declared.{data.ModuleChoice.ModuleChoice, data.ModuleId.ModuleId, data.UnresolvedReason.TheVariants.Circle, known.KnownPath.KnownPath}
 use Rattle.module_tree.specs.Laws.{WantsUnknown}
-use Rattle.module_tree.specs.Modules.{ModuleFiles, ModItem, CandidateFile, fails, finds, ModulePlace, Findings, nothing_found, found_module, unresolved_mod, wanted_paths, FoundModules, Enter, candidates, mod_item, unknown_path, unknown_paths, files_found, is_path_around, resolution_by, outline_module, is_followed, inside_inline, inside_file, next_id, module_in, with_module, with_unresolved, with_wanted, with_found, node_found, forest_found, enter_files, depth_limit, root_place, root_id, root_found, crate_found}
+use Rattle.module_tree.specs.Modules.{ModuleFiles, Dir, ModItem, CandidateFile, fails, finds, ModulePlace, Findings, nothing_found, found_module, unresolved_mod, wanted_paths, FoundModules, Enter, candidates, mod_item, unknown_path, unknown_paths, files_found, resolution_by, outline_module, is_followed, inside_inline, inside_file, next_id, module_in, with_module, with_unresolved, with_wanted, with_found, node_found, forest_found, enter_files, depth_limit, root_place, root_id, root_found, crate_found}
 
 -- all paths that are wanted, in order
 abbrev pub all_wanted : Findings → List (List ℕ)
@@ -33,7 +34,7 @@ module _ (choice : ModuleChoice) (files : ModuleFiles) where
 
   -- what is found of a file wants unknown paths alone
   abbrev Keeps : Enter → Type 0
-  Keeps enter = (p : ModulePlace) (m : ModItem) (file : ℕ) (c : CandidateFile) (behind : Findings) → Wants behind → Wants (enter p m file c behind)
+  Keeps enter = (p : ModulePlace) (m : ModItem) (file : ℕ) (dir : Dir) (behind : Findings) → Wants behind → Wants (enter p m file dir behind)
 
   if_keeps : (on : Bool) (f g : Findings) → Wants f → Wants g → Wants (if on then f else g)
   if_keeps true f g v w = v
@@ -50,14 +51,14 @@ module _ (choice : ModuleChoice) (files : ModuleFiles) where
       (All-append Unknown (unknown_path (files.known c.path) c.path) (unknown_paths files cs) (one_unknown c.path (files.known c.path) refl) (all_unknown cs))
 
   module _ (enter : Enter) (keeps : Keeps enter) where
-    one_keeps : (p : ModulePlace) (m : ModItem) (one : ℕ × CandidateFile) (is_circle : Bool) (behind : Findings) → Wants behind → Wants (outline_module enter p m (if is_circle then fails Circle else finds one.0 one.1) behind)
+    one_keeps : (p : ModulePlace) (m : ModItem) (one : ℕ × Dir) (is_around : Bool) (behind : Findings) → Wants behind → Wants (outline_module enter p m (if is_around then fails Circle else finds one.0 one.1) behind)
     one_keeps p m one true behind w = w
     one_keeps p m one false behind w = keeps p m one.0 one.1 behind w
 
-    outlined_keeps : (p : ModulePlace) (m : ModItem) (unknown : List (List ℕ)) (found : List (ℕ × CandidateFile)) (behind : Findings) → All Unknown unknown → Wants behind → Wants (outline_module enter p m (resolution_by p.around unknown found) behind)
+    outlined_keeps : (p : ModulePlace) (m : ModItem) (unknown : List (List ℕ)) (found : List (ℕ × Dir)) (behind : Findings) → All Unknown unknown → Wants behind → Wants (outline_module enter p m (resolution_by p.files unknown found) behind)
     outlined_keeps p m (path ∷ paths) found behind u w = All-append Unknown (path ∷ paths) (all_wanted behind) u w
     outlined_keeps p m [] [] behind u w = w
-    outlined_keeps p m [] (one ∷ []) behind u w = one_keeps p m one (is_path_around p.around one.1.path) behind w
+    outlined_keeps p m [] (one ∷ []) behind u w = one_keeps p m one (list_any (λ file. file == one.0) p.files) behind w
     outlined_keeps p m [] (one ∷ other ∷ found) behind u w = w
 
     mutual
@@ -77,11 +78,11 @@ module _ (choice : ModuleChoice) (files : ModuleFiles) where
       forest_keeps p (more n f) = node_keeps p n (forest_found choice files enter p f) (forest_keeps p f)
 
   entered_keeps : (depth : ℕ) → Keeps (enter_files choice files depth)
-  entered_keeps zero p m file c behind w = w
-  entered_keeps (suc depth) p m file c behind w =
-      let inside = forest_found choice files (enter_files choice files depth) (inside_file p file c) (files.tree file).forest in
+  entered_keeps zero p m file dir behind w = w
+  entered_keeps (suc depth) p m file dir behind w =
+      let inside = forest_found choice files (enter_files choice files depth) (inside_file p file dir) (files.tree file).forest in
       if_keeps (is_followed choice (is_file_enabled (files.tree file))) _ behind
-      (All-append Unknown (all_wanted inside) (all_wanted behind) (forest_keeps (enter_files choice files depth) (entered_keeps depth) (inside_file p file c) (files.tree file).forest) w) w
+      (All-append Unknown (all_wanted inside) (all_wanted behind) (forest_keeps (enter_files choice files depth) (entered_keeps depth) (inside_file p file dir) (files.tree file).forest) w) w
 
   crate_keeps : (root : ℕ) (path : List ℕ) → Wants (crate_found choice files root path)
   crate_keeps root path =

@@ -31,16 +31,16 @@ abbrev pub candidate_file_view : code.Candidate.Candidate → CandidateFile
 candidate_file_view c = record { path = string_bytes c.path; dir = dir_view c.dir }
 
 -- a file that was found
-abbrev pub found_file_view : ℕ × Bor code.Candidate.Candidate → ℕ × CandidateFile
-found_file_view found = (found.0, candidate_file_view found.1.now)
+abbrev pub file_dir : ℕ × Bor code.Candidate.Candidate → ℕ × Dir
+file_dir found = (found.0, dir_view found.1.now.dir)
 
 abbrev pub place_view : place_code.Place.Place → ModulePlace
-place_view p = record { file = p.file; around = texts p.around.items; dir = dir_view p.dir }
+place_view p = record { file = p.file; files = p.files.items; dir = dir_view p.dir }
 
 abbrev pub resolved_view : resolved_code.Resolved → Resolution
 resolved_view (Wants paths) = wants (map string_bytes paths.items)
 resolved_view (Fails reason) = fails reason
-resolved_view (Finds file c) = finds file (candidate_file_view c.now)
+resolved_view (Finds file dir) = finds file (dir_view dir)
 
 -- the module of an inline `mod`, and of one whose file was found
 abbrev pub inline_module : place_code.Place.Place → ModItem → ModuleData
@@ -57,11 +57,8 @@ id_modules choice files enter id p u s i = of_id u s (λ n. with_found id (node_
 abbrev pub entered_in : walk_code.Ctx.Ctx → ℕ → Enter
 entered_in ctx depth = enter_files ctx.choice (files_of ctx.known) depth
 
-abbrev pub id_modules_at : walk_code.Ctx.Ctx → ℕ → ModuleId → ModulePlace → Unfolding → FoundModules → ℕ → FoundModules
-id_modules_at ctx depth id p u = id_modules ctx.choice (files_of ctx.known) (entered_in ctx depth) id p u
-
 abbrev pub id_modules_in : walk_code.Ctx.Ctx → ℕ → place_code.Place.Place → Unfolding → FoundModules → ℕ → FoundModules
-id_modules_in ctx depth p u = id_modules_at ctx depth p.module_id (place_view p) u
+id_modules_in ctx depth p u = id_modules ctx.choice (files_of ctx.known) (entered_in ctx depth) p.module_id (place_view p) u
 
 -- the string of the first `#[path]` of the item of an id
 abbrev pub mod_path_at : Unfolding → ℕ → Option (List ℕ)

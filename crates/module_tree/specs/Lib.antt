@@ -2,5 +2,4 @@ pub mod Inner
 pub mod Laws
 pub mod Modules
 pub mod Paths
-pub mod Unsure
 pub mod Views

@@ -1,6 +1,6 @@
 -- The modules of a crate: from the tree of its root file on, each `mod` that is followed, in the order in which they are written.
-use Rattle.std.specs.Prelude.{ℕ, zero, suc, ◌^◌, Bool, true, List, [], ◌∷◌, ◌++◌, length, map, filter, flat_map, codes, Option, Some, None, option_map, if◌then◌else◌}
-use Rattle.std.specs.{List.filter_map, List.list_any, Str.bytes_eq}
+use Rattle.std.specs.Prelude.{ℕ, zero, suc, ◌^◌, ◌==◌, Bool, true, List, [], ◌∷◌, ◌++◌, length, map, filter, flat_map, codes, Option, Some, None, option_map, if◌then◌else◌}
+use Rattle.std.specs.List.{filter_map, list_any}
 use Rattle.hir_input.specs.{Attr.string_with_span_of, declared.attr.Attr.Attr, declared.ids.FileAstId.FileAstId}
 use Rattle.item_tree.specs.Node.{outline, inline, Head, Node, leaf, parent, Forest, empty, more, node_ast, Unfolding}
 use Rattle.item_tree_attrs.specs.{Collected.first, Key.has_key}
@@ -11,7 +11,7 @@ use Rattle.module_tree.specs.declared.data.ModuleOrigin.TheVariants.{CrateRoot, 
 use Rattle.module_tree.specs.declared.data.UnresolvedReason.TheVariants.{NoFile, TwoFiles, Circle, TooDeep}
 use Rattle.module_tree.specs.declared.known.KnownPath.{KnownPath}
 use Rattle.module_tree.specs.declared.known.KnownPath.TheVariants.{File, Missing}
-use Rattle.module_tree.specs.Paths.{names_from, file_folder, file_name, folder_text}
+use Rattle.module_tree.specs.Paths.{all_but_last, names_from, folder_text, path_text}
 
 -- what is known: of a path a file by its number or that there is none, and of each file its tree
 pub record ModuleFiles : Type 0 where
@@ -64,7 +64,7 @@ mod_rs d name = record { path = folder_text d.names ++ name ++ codes "/mod.rs"; 
 
 -- and so does the file that a path leads to
 abbrev pub file_at : List (List ℕ) → List ℕ → CandidateFile
-file_at folder path = let inside = file_folder folder path in record { path = folder_text inside ++ file_name path; dir = dir_at inside }
+file_at folder path = let names = names_from folder path in record { path = path_text names; dir = dir_at (all_but_last names) }
 
 abbrev pub candidates_by : Dir → List ℕ → Option (List ℕ) → List CandidateFile
 candidates_by d name None = named_file d name ∷ mod_rs d name ∷ []
@@ -88,17 +88,17 @@ pub data Findings : Type 0 where
   -- paths of which nothing is known
   wanted_paths : List (List ℕ) → (behind : Findings) → Findings
 
--- where items stand: in a file, with the paths of the files around them, this one too
+-- where items stand: in a file, with the files around them, this one too
 pub record ModulePlace : Type 0 where
   pub file : ℕ
-  pub around : List (List ℕ)
+  pub files : List ℕ
   pub dir : Dir
 
 abbrev pub inside_inline : ModulePlace → ModItem → ModulePlace
-inside_inline p m = record { file = p.file; around = p.around; dir = inline_dir p.dir m }
+inside_inline p m = record { file = p.file; files = p.files; dir = inline_dir p.dir m }
 
-abbrev pub inside_file : ModulePlace → ℕ → CandidateFile → ModulePlace
-inside_file p file c = record { file = file; around = p.around ++ c.path ∷ []; dir = c.dir }
+abbrev pub inside_file : ModulePlace → ℕ → Dir → ModulePlace
+inside_file p file dir = record { file = file; files = p.files ++ file ∷ []; dir = dir }
 
 -- a `mod` without a module, in front of what is found behind it
 abbrev pub no_module : ModulePlace → ModItem → UnresolvedReason → Findings → Findings
@@ -113,45 +113,41 @@ abbrev pub unknown_paths : ModuleFiles → List CandidateFile → List (List ℕ
 unknown_paths files cs = flat_map (λ c. unknown_path (files.known c.path) c.path) cs
 
 -- a file, if one is known
-abbrev pub file_found : Option KnownPath → CandidateFile → List (ℕ × CandidateFile)
-file_found None c = []
-file_found (Some Missing) c = []
-file_found (Some (File file)) c = (file, c) ∷ []
+abbrev pub file_found : Option KnownPath → Dir → List (ℕ × Dir)
+file_found None dir = []
+file_found (Some Missing) dir = []
+file_found (Some (File file)) dir = (file, dir) ∷ []
 
-abbrev pub files_found : ModuleFiles → List CandidateFile → List (ℕ × CandidateFile)
-files_found files cs = flat_map (λ c. file_found (files.known c.path) c) cs
+abbrev pub files_found : ModuleFiles → List CandidateFile → List (ℕ × Dir)
+files_found files cs = flat_map (λ c. file_found (files.known c.path) c.dir) cs
 
 -- what a `mod` means: not known before these paths are, no file, or this one
 pub data Resolution : Type 0 where
   wants : List (List ℕ) → Resolution
   fails : UnresolvedReason → Resolution
-  finds : ℕ → CandidateFile → Resolution
+  finds : ℕ → Dir → Resolution
 
--- whether a path is one of those around it
-abbrev pub is_path_around : List (List ℕ) → List ℕ → Bool
-is_path_around around path = list_any (λ other. bytes_eq other path) around
-
--- once all candidates are known: the one that is a file, and whose path is none of those around it
-abbrev pub resolution_by : List (List ℕ) → List (List ℕ) → List (ℕ × CandidateFile) → Resolution
+-- once all candidates are known: the one that is a file, and none of those around it
+abbrev pub resolution_by : List ℕ → List (List ℕ) → List (ℕ × Dir) → Resolution
 resolution_by around (path ∷ paths) found = wants (path ∷ paths)
 resolution_by around [] [] = fails NoFile
-resolution_by around [] (one ∷ []) = if is_path_around around one.1.path then fails Circle else finds one.0 one.1
+resolution_by around [] (one ∷ []) = if list_any (λ file. file == one.0) around then fails Circle else finds one.0 one.1
 resolution_by around [] (one ∷ other ∷ found) = fails TwoFiles
 
-abbrev pub resolution_of : ModuleFiles → List (List ℕ) → List CandidateFile → Resolution
+abbrev pub resolution_of : ModuleFiles → List ℕ → List CandidateFile → Resolution
 resolution_of files around cs = resolution_by around (unknown_paths files cs) (files_found files cs)
 
 abbrev pub resolution : ModuleFiles → ModulePlace → ModItem → Resolution
-resolution files p m = resolution_of files p.around (candidates p.dir m)
+resolution files p m = resolution_of files p.files (candidates p.dir m)
 
 -- what is found of a file that a `mod` means, in front of what is found behind the `mod`
 abbrev pub Enter : Type 0
-Enter = ModulePlace → ModItem → ℕ → CandidateFile → Findings → Findings
+Enter = ModulePlace → ModItem → ℕ → Dir → Findings → Findings
 
 abbrev pub outline_module : Enter → ModulePlace → ModItem → Resolution → Findings → Findings
 outline_module enter p m (wants paths) behind = wanted_paths paths behind
 outline_module enter p m (fails reason) behind = no_module p m reason behind
-outline_module enter p m (finds file c) behind = enter p m file c behind
+outline_module enter p m (finds file dir) behind = enter p m file dir behind
 
 -- whether an item, or a file, is followed, by whether no cfg disables it
 abbrev pub is_followed : ModuleChoice → Bool → Bool
@@ -160,14 +156,11 @@ is_followed All is_enabled = true
 
 -- how deep files may stand in the root file
 abbrev pub depth_limit : ℕ
-depth_limit = 1024
+depth_limit = 128
 
 -- the root file looks beside itself
-abbrev pub place_of_root : ℕ → CandidateFile → ModulePlace
-place_of_root root c = record { file = root; around = c.path ∷ []; dir = c.dir }
-
 abbrev pub root_place : ℕ → List ℕ → ModulePlace
-root_place root path = place_of_root root (file_at [] path)
+root_place root path = record { file = root; files = root ∷ []; dir = (file_at [] path).dir }
 
 module _ (choice : ModuleChoice) (files : ModuleFiles) where
   -- what is found in an item, in front of what is found behind it, and in the items of a forest
@@ -187,10 +180,10 @@ module _ (choice : ModuleChoice) (files : ModuleFiles) where
 
   -- a file is a module with all in it, if it is followed; so many files may stand in one another
   abbrev pub enter_files : ℕ → Enter
-  enter_files zero p m file c behind = no_module p m TooDeep behind
-  enter_files (suc depth) p m file c behind =
+  enter_files zero p m file dir behind = no_module p m TooDeep behind
+  enter_files (suc depth) p m file dir behind =
       if is_followed choice (is_file_enabled (files.tree file))
-      then found_module m.name (file_origin m.id) file (forest_found (enter_files depth) (inside_file p file c) (files.tree file).forest) behind
+      then found_module m.name (file_origin m.id) file (forest_found (enter_files depth) (inside_file p file dir) (files.tree file).forest) behind
       else behind
 
   -- what is found in a crate, by the number and the path of its root file

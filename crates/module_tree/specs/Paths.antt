@@ -1,5 +1,5 @@
--- Paths of files, as names from the top on down. The first name of an absolute path is empty, and `..` is a name.
-use Rattle.std.specs.Prelude.{ℕ, ◌-◌, ◌==◌, Bool, false, List, [], ◌∷◌, ◌++◌, length, take, codes, Option, slice_get, unwrap_or, fold, flat_map, if◌then◌else◌}
+-- Paths of files, as names from the top on down. The first name of an absolute path is empty.
+use Rattle.std.specs.Prelude.{ℕ, ◌-◌, ◌==◌, Bool, false, List, [], ◌∷◌, ◌++◌, length, take, codes, Option, Some, None, slice_get, unwrap_or, fold, flat_map, if◌then◌else◌}
 use Rattle.std.specs.{List.slice_split, Str.bytes_eq}
 
 abbrev pub final_name : List (List ℕ) → Option (List ℕ)
@@ -8,15 +8,17 @@ final_name names = slice_get names (length names - 1)
 abbrev pub all_but_last : List (List ℕ) → List (List ℕ)
 all_but_last names = take (length names - 1) names
 
--- what is between slashes
-abbrev pub path_words : List ℕ → List (List ℕ)
-path_words path = slice_split (λ b. b == 47) path
+-- what `..` makes of names: above the top of an absolute path is that top, and above where other paths begin stands `..`
+abbrev pub above_by : Option (List ℕ) → List (List ℕ) → List (List ℕ)
+above_by None names = names ++ codes ".." ∷ []
+above_by (Some name) names = if length name == 0 then names else if bytes_eq name (codes "..") then names ++ codes ".." ∷ [] else all_but_last names
 
--- where a word leads: an empty one and `.` nowhere; where `..` does is up to the file system
+-- and what a word between slashes does
 abbrev pub stepped_words : List (List ℕ) → List ℕ → List (List ℕ)
 stepped_words names word =
     if length word == 0 then names
     else if bytes_eq word (codes ".") then names
+    else if bytes_eq word (codes "..") then above_by (final_name names) names
     else names ++ word ∷ []
 
 abbrev pub is_absolute : List ℕ → Bool
@@ -27,17 +29,14 @@ is_absolute (b ∷ bs) = b == 47
 abbrev pub path_base : List (List ℕ) → List ℕ → List (List ℕ)
 path_base folder path = if is_absolute path then [] ∷ [] else folder
 
--- where it leads
+-- and where it leads
 abbrev pub names_from : List (List ℕ) → List ℕ → List (List ℕ)
-names_from folder path = fold stepped_words (path_base folder path) (path_words path)
-
--- and the folder and the name of the file there; the name is as it is written
-abbrev pub file_folder : List (List ℕ) → List ℕ → List (List ℕ)
-file_folder folder path = fold stepped_words (path_base folder path) (all_but_last (path_words path))
-
-abbrev pub file_name : List ℕ → List ℕ
-file_name path = unwrap_or (final_name (path_words path)) []
+names_from folder path = fold stepped_words (path_base folder path) (slice_split (λ b. b == 47) path)
 
 -- a folder as text, in front of what stands in it
 abbrev pub folder_text : List (List ℕ) → List ℕ
 folder_text names = flat_map (λ name. name ++ codes "/") names
+
+-- the path of a file as text
+abbrev pub path_text : List (List ℕ) → List ℕ
+path_text names = folder_text (all_but_last names) ++ unwrap_or (final_name names) []

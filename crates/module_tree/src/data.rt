@@ -84,9 +84,9 @@ pub enum UnresolvedReason {
     NoFile,
     /// At both paths is one.
     TwoFiles,
-    /// The path is one of those of the files around the `mod`.
+    /// The file is one of those around the `mod`.
     Circle,
-    /// As many files as may be stand around it: the root file and 1,024 more.
+    /// As many files as may be stand around it: the root file and 128 more.
     TooDeep,
 }
 

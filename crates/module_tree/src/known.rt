@@ -10,7 +10,7 @@ use std::collections::BTreeMap;
 /// What stands at a path.
 #[derive(Clone, Copy, Debug, PartialEq, Eq)]
 pub enum KnownPath {
-    /// The file of this number.
+    /// The file of this number. Paths that lead to one file have its number.
     File(u32),
     /// No file.
     Missing,

@@ -9,7 +9,6 @@ mod mod_dir;
 mod paths;
 mod place;
 mod resolve;
-mod unsure;
 mod walk;
 
 pub use data::{
@@ -17,5 +16,4 @@ pub use data::{
     UnresolvedModule, UnresolvedReason,
 };
 pub use known::{KnownFiles, KnownPath};
-pub use unsure::unsure_mods;
 pub use walk::module_tree;

@@ -1,9 +1,10 @@
 //! Where the files of modules are looked for.
-ghost use Rattle.std.specs.Prelude.{◌≡◌, ◌++◌, ◌∷◌, [], IfOk, OnOk, map};
+ghost use Rattle.std.specs.Prelude.{◌≡◌, ◌++◌, ◌∷◌, [], IfOk, OnOk, map, unwrap_or};
 ghost use Rattle.module_tree.specs.Inner.{texts, dir_view, mod_item_view, candidate_file_view};
 ghost use Rattle.module_tree.specs.Modules as spec;
+ghost use Rattle.module_tree.specs.Paths.{all_but_last, final_name, path_text};
 
-use crate::paths::{file_from, folder_text, path_from};
+use crate::paths::{folder_text, path_from};
 use hir_input::{FileAstId, Name};
 use std::alloc::{AllocError, Global};
 
@@ -106,6 +107,16 @@ fn mod_rs<'a>(alloc: Global, dir: &ModDir<'a>, name: &'a Name) -> Result<Candida
     Ok(Candidate { path, dir })
 }
 
+#[tactic(auto, using(crate::proofs::BorrowedNames::last_is))]
+fn last_name<'a>(names: &[&'a str]) -> &'a str
+    ensures { result.now ≡ unwrap_or (final_name (texts names.now)) [] }
+{
+    match names.last() {
+        Some(name) => name,
+        None => "",
+    }
+}
+
 /// The file that a path leads to, which looks beside itself.
 pub(crate) fn file_at<'a>(
     alloc: Global,
@@ -114,18 +125,13 @@ pub(crate) fn file_at<'a>(
 ) -> Result<Candidate<'a>, AllocError>
     ensures { IfOk result (λ c. candidate_file_view c ≡ spec.file_at (texts folder.now) path.now) }
 {
-    let (names, name) = file_from(alloc, folder, path)?;
+    let mut names = path_from(alloc, folder, path)?;
+    let last = last_name(names.as_slice());
+    let _last = names.pop();
     let mut path = folder_text(alloc, names.as_slice())?;
-    path.push_str(name)?;
+    path.push_str(last)?;
     let dir = dir_at(alloc, names)?;
     Ok(Candidate { path, dir })
-}
-
-/// The root file, which looks beside itself.
-pub(crate) fn root_file(alloc: Global, path: &str) -> Result<Candidate<'_>, AllocError>
-    ensures { IfOk result (λ c. candidate_file_view c ≡ spec.file_at [] path.now) }
-{
-    file_at(alloc, &[], path)
 }
 
 /// The files that a `mod` may mean.

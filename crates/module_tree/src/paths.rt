@@ -1,9 +1,29 @@
 //! Paths of files, as names from the top on down.
-ghost use Rattle.std.specs.Prelude.{◌≡◌, [], IfOk, OnOk, fold, string_bytes, unwrap_or};
+ghost use Rattle.std.specs.Prelude.{◌≡◌, IfOk, OnOk, string_bytes};
 ghost use Rattle.module_tree.specs.Paths as spec;
 ghost use Rattle.module_tree.specs.Inner.{texts};
 
 use std::alloc::{AllocError, Global};
+
+/// Goes to what is above names.
+fn go_above<'a>(names: &mut Vec<&'a str>) -> Result<(), AllocError>
+    ensures { OnOk result (texts names.new.items
+        ≡ spec.above_by (spec.final_name (texts names.old.items)) (texts names.old.items)) }
+{
+    let Some(last) = names.last() else {
+        names.push("..")?;
+        return Ok(());
+    };
+    if last.is_empty() {
+        return Ok(());
+    }
+    if *last == ".." {
+        names.push("..")?;
+        return Ok(());
+    }
+    let _last = names.pop();
+    Ok(())
+}
 
 /// Goes where a word between slashes leads.
 fn go<'a>(names: &mut Vec<&'a str>, word: &'a str) -> Result<(), AllocError>
@@ -11,6 +31,9 @@ fn go<'a>(names: &mut Vec<&'a str>, word: &'a str) -> Result<(), AllocError>
 {
     if word.is_empty() || word == "." {
         return Ok(());
+    }
+    if word == ".." {
+        return go_above(names);
     }
     names.push(word)?;
     Ok(())
@@ -37,34 +60,6 @@ fn start<'a>(alloc: Global, folder: &[&'a str], path: &str) -> Result<Vec<&'a st
     Ok(names)
 }
 
-/// What is between the slashes of a path.
-fn path_words(alloc: Global, path: &str) -> Result<Vec<&str>, AllocError>
-    ensures { IfOk result (λ words. texts words.items ≡ spec.path_words path.now) }
-{
-    let mut words = Vec::new(alloc);
-    for word in path.split('/') {
-        words.push(word)?;
-    }
-    Ok(words)
-}
-
-/// Where these words of a path lead from a folder.
-fn names_along<'a>(
-    alloc: Global,
-    folder: &[&'a str],
-    path: &str,
-    words: &[&'a str],
-) -> Result<Vec<&'a str>, AllocError>
-    ensures { let base = spec.path_base (texts folder.now) path.now in
-        IfOk result (λ names. texts names.items ≡ fold spec.stepped_words base (texts words.now)) }
-{
-    let mut names = start(alloc, folder, path)?;
-    for word in words {
-        go(&mut names, word)?;
-    }
-    Ok(names)
-}
-
 /// Where a path leads from a folder.
 pub(crate) fn path_from<'a>(
     alloc: Global,
@@ -73,35 +68,11 @@ pub(crate) fn path_from<'a>(
 ) -> Result<Vec<&'a str>, AllocError>
     ensures { IfOk result (λ names. texts names.items ≡ spec.names_from (texts folder.now) path.now) }
 {
-    let words = path_words(alloc, path)?;
-    names_along(alloc, folder, path, words.as_slice())
-}
-
-#[tactic(auto, using(crate::proofs::BorrowedNames::last_is))]
-fn last_name<'a>(names: &[&'a str]) -> &'a str
-    ensures { result.now ≡ unwrap_or (spec.final_name (texts names.now)) [] }
-{
-    match names.last() {
-        Some(name) => name,
-        None => "",
+    let mut names = start(alloc, folder, path)?;
+    for word in path.split('/') {
+        go(&mut names, word)?;
     }
-}
-
-/// The folder and the name of the file to which a path leads from a folder.
-#[tactic(auto, using(crate::proofs::BorrowedNames::shorter))]
-pub(crate) fn file_from<'a>(
-    alloc: Global,
-    folder: &[&'a str],
-    path: &'a str,
-) -> Result<(Vec<&'a str>, &'a str), AllocError>
-    ensures folder { IfOk result (λ found. texts found.0.items ≡ spec.file_folder (texts folder.now) path.now) }
-    ensures name { IfOk result (λ found. found.1.now ≡ spec.file_name path.now) }
-{
-    let mut words = path_words(alloc, path)?;
-    let name = last_name(words.as_slice());
-    let _name = words.pop();
-    let names = names_along(alloc, folder, path, words.as_slice())?;
-    Ok((names, name))
+    Ok(names)
 }
 
 /// A folder as text, in front of what stands in it.

@@ -1,7 +1,7 @@
 //! Where items stand, and what is added there.
 ghost use Rattle.std.specs.Prelude.{◌≡◌, ◌++◌, IfOk, OnOk, map};
-ghost use Rattle.module_tree.specs.Inner.{path_texts, candidate_file_view, dir_view, file_module, inline_module};
-ghost use Rattle.module_tree.specs.Inner.{mod_item_view, place_view, AddsAll};
+ghost use Rattle.module_tree.specs.Inner.{path_texts, dir_view, file_module, inline_module, mod_item_view, place_view};
+ghost use Rattle.module_tree.specs.Inner.{AddsAll};
 ghost use Rattle.module_tree.specs.Modules as spec;
 ghost use Rattle.module_tree.specs.Modules.{nothing_found, with_found, with_module};
 ghost use Rattle.module_tree.specs.Views.{modules_view};
@@ -10,7 +10,7 @@ use crate::data::{
     MOST_MODULES, ModuleData, ModuleId, ModuleOrigin, ModuleTree, ModuleTreeError,
     UnresolvedModule, UnresolvedReason,
 };
-use crate::mod_dir::{Candidate, ModDir, ModItem, candidates, copy_dir, inline_dir};
+use crate::mod_dir::{ModDir, ModItem, candidates, file_at, inline_dir};
 use std::alloc::{AllocError, Global};
 
 /// Where items stand.
@@ -18,8 +18,8 @@ use std::alloc::{AllocError, Global};
 pub(crate) struct Place<'a> {
     pub(crate) module_id: ModuleId,
     pub(crate) file: u32,
-    /// The paths of the files around them, this one too.
-    pub(crate) around: Vec<&'a str>,
+    /// The files around them, this one too.
+    pub(crate) files: Vec<u32>,
     pub(crate) dir: ModDir<'a>,
 }
 
@@ -126,7 +126,7 @@ pub(crate) fn push_inline<'a>(
     Ok(Place {
         module_id,
         file: place.file,
-        around: Vec::from_slice(alloc, place.around.as_slice())?,
+        files: Vec::from_slice(alloc, place.files.as_slice())?,
         dir: inline_dir(alloc, &place.dir, item)?,
     })
 }
@@ -137,26 +137,26 @@ pub(crate) fn push_outline<'a>(
     place: &Place<'a>,
     item: &ModItem<'a>,
     file: u32,
-    candidate: &'a Candidate<'a>,
+    dir: ModDir<'a>,
     found: &mut ModuleTree,
 ) -> Result<Place<'a>, ModuleTreeError>
     ensures added { let one = file_module place.now (mod_item_view item.now) file in
         AddsAll (modules_view found.new) (with_module one (modules_view found.old)) result }
     ensures id { IfOk result (λ inside. inside.module_id ≡ spec.next_id (modules_view found.old)) }
-    ensures place { let inside = spec.inside_file (place_view place.now) file (candidate_file_view candidate.now) in
+    ensures place { let inside = spec.inside_file (place_view place.now) file (dir_view dir.entry) in
         IfOk result (λ p. place_view p ≡ inside) }
 {
     let origin = ModuleOrigin::File {
         declaration: item.id,
     };
     let module_id = push_module(place, item, origin, file, found)?;
-    let mut around = Vec::from_slice(alloc, place.around.as_slice())?;
-    around.push(candidate.path.as_str())?;
+    let mut files = Vec::from_slice(alloc, place.files.as_slice())?;
+    files.push(file)?;
     Ok(Place {
         module_id,
         file,
-        around,
-        dir: copy_dir(alloc, &candidate.dir)?,
+        files,
+        dir,
     })
 }
 
@@ -178,21 +178,21 @@ pub(crate) fn root_found(alloc: Global, root: u32) -> Result<ModuleTree, AllocEr
     })
 }
 
-/// Where the items of the root file stand, which is at this path.
+/// Where the items of the root file stand.
 pub(crate) fn root_place<'a>(
     alloc: Global,
     root: u32,
-    at: &'a Candidate<'a>,
+    path: &'a str,
 ) -> Result<Place<'a>, AllocError>
     ensures id { IfOk result (λ place. place.module_id ≡ spec.root_id) }
-    ensures place { IfOk result (λ place. place_view place ≡ spec.place_of_root root (candidate_file_view at.now)) }
+    ensures place { IfOk result (λ place. place_view place ≡ spec.root_place root path.now) }
 {
-    let mut around = Vec::new(alloc);
-    around.push(at.path.as_str())?;
+    let mut files = Vec::new(alloc);
+    files.push(root)?;
     Ok(Place {
         module_id: ModuleId(0),
         file: root,
-        around,
-        dir: copy_dir(alloc, &at.dir)?,
+        files,
+        dir: file_at(alloc, &[], path)?.dir,
     })
 }

@@ -1,21 +1,21 @@
 //! What a `mod` means.
-ghost use Rattle.std.specs.Prelude.{◌≡◌, ◌++◌, [], IfOk, OnOk, map, nat_eq};
-ghost use Rattle.std.specs.{List.list_any, Cmp.Lexicographic.pointwise};
-ghost use Rattle.module_tree.specs.Inner.{texts, path_texts, candidate_file_view, found_file_view, resolved_view};
+ghost use Rattle.std.specs.Prelude.{◌≡◌, ◌==◌, ◌++◌, [], IfOk, OnOk, map};
+ghost use Rattle.std.specs.List.{list_any};
+ghost use Rattle.module_tree.specs.Inner.{path_texts, candidate_file_view, file_dir, resolved_view};
 ghost use Rattle.module_tree.specs.Modules as spec;
 ghost use Rattle.module_tree.specs.Views.{files_of};
 
 use crate::data::UnresolvedReason;
 use crate::known::{KnownFiles, KnownPath, known_path};
-use crate::mod_dir::Candidate;
+use crate::mod_dir::{Candidate, ModDir, copy_dir};
 use std::alloc::{AllocError, Global};
 
 /// What a `mod` means: not known before these paths are, no file, or this one.
 #[derive(Drop)]
-pub(crate) enum Resolved<'c, 'a> {
+pub(crate) enum Resolved<'a> {
     Wants(Vec<String>),
     Fails(UnresolvedReason),
-    Finds(u32, &'c Candidate<'a>),
+    Finds(u32, ModDir<'a>),
 }
 
 /// Adds the path of a candidate if nothing is known of it.
@@ -51,22 +51,10 @@ fn unknown_paths(
     Ok(paths)
 }
 
-fn is_among(names: &[&str], wanted: &str) -> bool
-    ensures { result ≡ list_any (λ name. pointwise nat_eq name.now wanted.now) names.now }
+fn is_among(file: u32, files: &[u32]) -> bool
+    ensures { result ≡ list_any (λ around. around == file) files.now }
 {
-    for name in names {
-        if name.as_bytes() == wanted.as_bytes() {
-            return true;
-        }
-    }
-    false
-}
-
-/// Whether a path is one of those around it.
-fn is_around(around: &[&str], path: &str) -> bool
-    ensures { result ≡ spec.is_path_around (texts around.now) path.now }
-{
-    is_among(around, path)
+    files.iter().any(|around| *around == file)
 }
 
 type FileFound<'c, 'a> = (u32, &'c Candidate<'a>);
@@ -78,8 +66,8 @@ fn push_found<'c, 'a>(
     found: &mut Vec<FileFound<'c, 'a>>,
 ) -> Result<(), AllocError>
     ensures { let c = candidate_file_view candidate.now in
-        OnOk result (map found_file_view found.new.items ≡ map found_file_view found.old.items
-        ++ spec.file_found ((files_of known.now).known c.path) c) }
+        OnOk result (map file_dir found.new.items ≡ map file_dir found.old.items
+        ++ spec.file_found ((files_of known.now).known c.path) c.dir) }
 {
     match known_path(known, candidate.path.as_str()) {
         Some(KnownPath::File(file)) => {
@@ -97,7 +85,7 @@ fn files_found<'c, 'a>(
     known: &KnownFiles<'_>,
     candidates: &'c [Candidate<'a>],
 ) -> Result<Vec<FileFound<'c, 'a>>, AllocError>
-    ensures { IfOk result (λ found. map found_file_view found.items
+    ensures { IfOk result (λ found. map file_dir found.items
         ≡ spec.files_found (files_of known.now) (map candidate_file_view candidates.now)) }
 {
     let mut found = Vec::new(alloc);
@@ -107,36 +95,41 @@ fn files_found<'c, 'a>(
     Ok(found)
 }
 
-/// What a `mod` means of these candidates, with these paths around it.
-pub(crate) fn resolve<'c, 'a>(
+/// What a `mod` means of these candidates, with these files around it.
+pub(crate) fn resolve<'a>(
     alloc: Global,
     known: &KnownFiles<'_>,
-    candidates: &'c [Candidate<'a>],
-    around: &[&str],
-) -> Result<Resolved<'c, 'a>, AllocError>
-    ensures { let cs = map candidate_file_view candidates.now in
-        IfOk result (λ r. resolved_view r ≡ spec.resolution_of (files_of known.now) (texts around.now) cs) }
+    candidates: &[Candidate<'a>],
+    around: &[u32],
+) -> Result<Resolved<'a>, AllocError>
+    ensures { IfOk result (λ r. resolved_view r
+        ≡ spec.resolution_of (files_of known.now) around.now (map candidate_file_view candidates.now)) }
 {
     let unknown = unknown_paths(alloc, known, candidates)?;
     if !unknown.is_empty() {
         return Ok(Resolved::Wants(unknown));
     }
     let found = files_found(alloc, known, candidates)?;
-    Ok(one_file(found.as_slice(), around))
+    one_file(alloc, found.as_slice(), around)
 }
 
-/// The one file, if there is one, and its path is none of those around.
-fn one_file<'c, 'a>(found: &[FileFound<'c, 'a>], around: &[&str]) -> Resolved<'c, 'a>
-    ensures { resolved_view result ≡ spec.resolution_by (texts around.now) [] (map found_file_view found.now) }
+/// The one file, if there is one, and it is none of those around.
+fn one_file<'a>(
+    alloc: Global,
+    found: &[FileFound<'_, 'a>],
+    around: &[u32],
+) -> Result<Resolved<'a>, AllocError>
+    ensures { IfOk result (λ r. resolved_view r
+        ≡ spec.resolution_by around.now [] (map file_dir found.now)) }
 {
     match found {
-        [] => Resolved::Fails(UnresolvedReason::NoFile),
+        [] => Ok(Resolved::Fails(UnresolvedReason::NoFile)),
         [(file, candidate)] => {
-            if is_around(around, candidate.path.as_str()) {
-                return Resolved::Fails(UnresolvedReason::Circle);
+            if is_among(*file, around) {
+                return Ok(Resolved::Fails(UnresolvedReason::Circle));
             }
-            Resolved::Finds(*file, *candidate)
+            Ok(Resolved::Finds(*file, copy_dir(alloc, &candidate.dir)?))
         }
-        _ => Resolved::Fails(UnresolvedReason::TwoFiles),
+        _ => Ok(Resolved::Fails(UnresolvedReason::TwoFiles)),
     }
 }

@@ -1,8 +1,8 @@
 //! The walk of a crate's trees.
 ghost use Rattle.std.specs.Prelude.{◌≡◌, ◌<◌, ◌≤◌, length, IfOk, IsErrOf, fold, option_copied};
 ghost use Rattle.item_tree.specs.{Shown.IsContained, Walk.AreContained};
-ghost use Rattle.module_tree.specs.Inner.{candidate_file_view, entered_in, id_modules_in, mod_item_view, mod_path_at};
-ghost use Rattle.module_tree.specs.Inner.{id_modules_at, place_view, AddsAll};
+ghost use Rattle.module_tree.specs.Inner.{dir_view, entered_in, id_modules_in, mod_item_view, mod_path_at};
+ghost use Rattle.module_tree.specs.Inner.{place_view, AddsAll};
 ghost use Rattle.module_tree.specs.Modules as spec;
 ghost use Rattle.module_tree.specs.Modules.{crate_modules, most_modules, nothing_found, with_found};
 ghost use Rattle.module_tree.specs.declared.data.ModuleTreeError.TheVariants.{TooManyModules};
@@ -10,7 +10,7 @@ ghost use Rattle.module_tree.specs.Views.{files_of, modules_view};
 
 use crate::data::{ModuleChoice, ModuleTree, ModuleTreeError, UnresolvedReason};
 use crate::known::{KnownFiles, known_tree};
-use crate::mod_dir::{Candidate, ModItem, candidates, root_file};
+use crate::mod_dir::{ModDir, ModItem, candidates};
 use crate::place::{
     Place, push_inline, push_outline, push_unresolved, push_wanted, root_found, root_place,
 };
@@ -20,8 +20,8 @@ use item_tree_attrs::{AttrsOrCfg, AttrsOwned};
 use std::alloc::Global;
 use tree_walk::{is_enabled, is_file_enabled};
 
-/// How deep files may stand in the root file. (The compiler has no room for more at some 800.)
-const DEPTH_LIMIT: u32 = 1024;
+/// How deep files may stand in the root file.
+const DEPTH_LIMIT: u32 = 128;
 
 /// What the walk has at hand everywhere: the allocator, what is known, and which items are followed.
 #[derive(Clone, Copy)]
@@ -139,7 +139,7 @@ fn push_mod<'a>(
         ctx.alloc,
         &ctx.known,
         candidates.as_slice(),
-        place.around.as_slice(),
+        place.files.as_slice(),
     )? {
         Resolved::Wants(paths) => {
             push_wanted(paths, found)?;
@@ -149,9 +149,7 @@ fn push_mod<'a>(
             push_unresolved(ctx.alloc, place, item, reason, found)?;
             Ok(())
         }
-        Resolved::Finds(file, candidate) => {
-            push_file(&*ctx, &*item, file, candidate, &*place, depth, found)
-        }
+        Resolved::Finds(file, dir) => push_file(ctx, item, file, dir, place, depth, found),
     }
 }
 
@@ -162,15 +160,14 @@ fn push_file<'a>(
     ctx: &Ctx<'a>,
     item: &ModItem<'a>,
     file: u32,
-    candidate: &'a Candidate<'a>,
+    dir: ModDir<'a>,
     place: &Place<'a>,
     depth: u32,
     found: &mut ModuleTree,
 ) -> Result<(), ModuleTreeError>
     requires few { length (modules_view found.old).modules ≤ most_modules }
     ensures { let m = mod_item_view item.now in
-        let c = candidate_file_view candidate.now in
-        let f = entered_in ctx.now depth (place_view place.now) m file c nothing_found in
+        let f = entered_in ctx.now depth (place_view place.now) m file (dir_view dir.entry) nothing_found in
         AddsAll (modules_view found.new) (with_found place.now.module_id f (modules_view found.old)) result }
 {
     if depth == 0 {
@@ -178,43 +175,25 @@ fn push_file<'a>(
         return Ok(());
     }
     let Some(tree) = known_tree(&ctx.known, file) else {
-        let _inside = push_outline(ctx.alloc, place, item, file, candidate, found)?;
+        let _inside = push_outline(ctx.alloc, place, item, file, dir, found)?;
         return Ok(());
     };
     if !is_followed(ctx.choice, is_file_enabled(tree)) {
         return Ok(());
     }
-    let inside = push_outline(ctx.alloc, place, item, file, candidate, found)?;
+    let inside = push_outline(ctx.alloc, place, item, file, dir, found)?;
     let ids = tree.top_level_items();
     push_items(ctx, tree, ids, &inside, depth - 1, found)
 }
 
-/// Adds what is found in the items of the root file, which is at this path.
-fn push_root(
-    ctx: &Ctx<'_>,
-    tree: &ItemTree,
-    ids: &[ModItemId],
-    root: u32,
-    at: &Candidate<'_>,
-    found: &mut ModuleTree,
-) -> Result<(), ModuleTreeError>
-    requires contained { AreContained tree.now ids.now }
-    requires few { length (modules_view found.old).modules ≤ most_modules }
-    ensures { let place = spec.place_of_root root (candidate_file_view at.now) in
-        let add = id_modules_at ctx.now spec.depth_limit spec.root_id place tree.now in
-        AddsAll (modules_view found.new) (fold add (modules_view found.old) ids.now) result }
-{
-    let place = root_place(ctx.alloc, root, &*at)?;
-    push_items(&*ctx, &*tree, ids, &place, DEPTH_LIMIT, found)
-}
-
 /// The modules of a crate, by the number and the path of its root file, as far as its files are known.
 ///
-/// A `mod` is looked for at two paths, `a.rs` and `a/mod.rs`, or at that of its first `#[path]` with a string. In paths
-/// `.` and a second slash mean nothing, and `..` stays: where it leads is up to the file system. As long as nothing is
-/// known of one of its paths, a `mod` has no module, and such paths are wanted. Unless all are followed, a `mod` that a
-/// cfg disables is left out, and so is one whose file a cfg disables as a whole. A file may be more than one module,
-/// but none that stands in a file of the same path. An inner `#![path]` of a file means nothing.
+/// A `mod` is looked for at two paths, `a.rs` and `a/mod.rs`, or at that of its first `#[path]` with a string. Paths
+/// are normalized: `.` and a second slash mean nothing, `..` takes a name away. Above the top of an absolute path is
+/// that top; above the folder from which other paths are seen is `..`. As long as nothing is known of one of its paths,
+/// a `mod` has no module, and such paths are wanted. Unless all are followed, a `mod` that a cfg disables is left out,
+/// and so is one whose file a cfg disables as a whole. A file may be more than one module. An inner `#![path]` of a
+/// file means nothing.
 ///
 /// # Errors
 ///
@@ -240,14 +219,14 @@ pub fn module_tree(
     if !is_followed(choice, is_file_enabled(tree)) {
         return Ok(found);
     }
-    let at = root_file(alloc, path)?;
     let known = *known;
     let ctx = Ctx {
         alloc,
         known,
         choice,
     };
+    let place = root_place(alloc, root, path)?;
     let ids = tree.top_level_items();
-    push_root(&ctx, tree, ids, root, &at, &mut found)?;
+    push_items(&ctx, tree, ids, &place, DEPTH_LIMIT, &mut found)?;
     Ok(found)
 }

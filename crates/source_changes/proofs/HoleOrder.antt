@@ -20,7 +20,7 @@ use Rattle.source_rows.specs.Labels.{has_members}
 use Rattle.source_changes.specs.Bodies.{is_hole}
 use Rattle.source_rows.specs.Listed.{body_members}
 use Rattle.source_changes.specs.Rows.{hole_inside}
-use Rattle.source_changes.proofs.ItemHoles.{hole_at, item_holes, place_holes, member_holes, members_are, none_held, Thinned, none_left, left_out, left_in}
+use Rattle.source_changes.proofs.ItemHoles.{hole_at, item_holes, place_holes, member_holes, members_are, none_held}
 use Rattle.source_changes.proofs.PartedItems.{held_none, may_hold, none_placed}
 
 -- the braces of holes stand from a place on and up to another, each behind those before
@@ -111,11 +111,3 @@ all_rise {to = to} {ps = ps} edition text are = by (rises edition text (omega ar
   where
     by : Risen edition text 0 to ps [] → AreRising 0 to (flat_map (place_holes edition text) ps)
     by r = subst (λ l. AreRising 0 to (flat_map (place_holes edition text) l)) (sym (r.is ∙ append-nil r.list)) r.rising
-
--- so do some of them
-pub thinned_rise : {hs ks : List Hole} (low high : ℕ) → Thinned hs ks → AreRising low high ks → AreRising low high hs
-thinned_rise low high none_left r = r
-thinned_rise low high (left_out k t) r =
-    let rest = thinned_rise (suc k.end) high t r.2 in
-    rising_within (suc k.end) high low high _ (omega (arith, r.0, r.1)) (omega arith) rest
-thinned_rise low high (left_in k t) r = (r.0, r.1, thinned_rise (suc k.end) high t r.2)

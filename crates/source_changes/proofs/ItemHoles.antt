@@ -1,7 +1,5 @@
 -- The holes of items, in texts that begin or end alike.
-use Rattle.std.proofs.Common.{◌≡◌, ◌≤◌, ◌<◌, ◌+◌, ◌-◌, ◌++◌, ◌⊎◌, inl, inr, ⊎_elim, ℕ, Bool, true, false, ◌||◌, Option, Some, None, List, [], ◌∷◌, length, refl, sym, ap, ◌∙◌, subst, arith, nat_lt, option_map, map, flat_map}
-use Rattle.std.specs.List.{list_any}
-use Rattle.std.proofs.lemmas.Bool.{or_parts}
+use Rattle.std.proofs.Common.{◌≡◌, ◌≤◌, ◌<◌, ◌+◌, ◌-◌, ◌++◌, ◌⊎◌, inl, inr, ⊎_elim, ℕ, Bool, true, false, Option, Some, None, List, [], ◌∷◌, length, refl, sym, ap, ◌∙◌, arith, nat_lt, option_map, map, flat_map}
 use Rattle.std.proofs.lemmas.Bool.Decides.{nat_tests}
 use Rattle.std.proofs.lemmas.Grind.{flat_map-append}
 use Rattle.std.proofs.lemmas.List.{map-append}
@@ -21,9 +19,8 @@ use Rattle.rust_items.specs.Members.{MemberRead, moved_member, range_moved_by}
 use Rattle.rust_items.specs.MemberPlaces.{ArePlaced}
 use Rattle.source_rows.specs.Labels.{has_members}
 use Rattle.source_changes.specs.Bodies.{hole_of}
-use Rattle.source_changes.specs.Foreign.{is_input}
 use Rattle.source_rows.specs.Listed.{body_members}
-use Rattle.source_changes.specs.Parts.{Part, around_behind, fn_body, have_input, hole_unless, item_parts_from, member_part, member_parts, members_hidden, part_of_item, part_path, still_open, Outer}
+use Rattle.source_changes.specs.Parts.{Part, around_behind, fn_body, item_parts_from, member_part, member_parts, members_hidden, part_of_item, part_path, still_open, Outer}
 use Rattle.source_changes.specs.Rows.{bodies, hole_inside}
 use Rattle.source_changes.proofs.LeftOutParts.{moved_on}
 use Rattle.source_changes.proofs.Cuts.{cut_front, cut_behind, hole_front, hole_behind}
@@ -47,109 +44,23 @@ item_holes edition text k range body = hole_at text range (fn_body k body) ++ me
 abbrev pub place_holes : EditionYear → List ℕ → ItemPlace → List Hole
 place_holes edition text s = item_holes edition text s.id.kind s.range s.body
 
--- holes, but none in a macro's input
-abbrev pub holes_unless : Bool → List Hole → List Hole
-holes_unless true hs = []
-holes_unless false hs = hs
+parts_holes : (text path : List ℕ) (hidden : Option Bool) (ms : List MemberRead) → bodies (map (member_part text path hidden) ms) ≡ member_holes text ms
+parts_holes text path hidden ms = flat_map-map (λ (p : Part). hole_inside p.body) (member_part text path hidden) ms
 
-one_hole : (input : Bool) (o : Option TextRange) → hole_inside (hole_unless input o) ≡ holes_unless input (hole_inside o)
-one_hole true o = refl
-one_hole false o = refl
-
-parts_holes : (text path : List ℕ) (hidden : Option Bool) (input : Bool) (ms : List MemberRead) → bodies (map (member_part text path hidden input) ms) ≡ holes_unless input (member_holes text ms)
-parts_holes text path hidden false ms = flat_map-map (λ (p : Part). hole_inside p.body) (member_part text path hidden false) ms
-parts_holes text path hidden true [] = refl
-parts_holes text path hidden true (m ∷ ms) =
-    flat_map-cons (λ (p : Part). hole_inside p.body) (member_part text path hidden true m) (map (member_part text path hidden true) ms) ∙ parts_holes text path hidden true ms
-
--- the holes of an item's parts
-abbrev pub holes_around : EditionYear → List ℕ → List Outer → ItemPlace → List Hole
-holes_around edition text around s =
-    holes_unless (have_input around) (hole_at text s.range (fn_body s.id.kind s.body))
-    ++ holes_unless (have_input around || is_input text s) (member_holes text (body_members edition s.id.kind text (has_members s.id.kind) s.body))
-
--- the holes of the parts of items, one item at a time
-pub holes_step : (edition : EditionYear) (text : List ℕ) (around : List Outer) (s : ItemPlace) (ss : List ItemPlace) → let open_around = still_open s.range.start around in
-    bodies (item_parts_from edition text around (s ∷ ss)) ≡ holes_around edition text open_around s ++ bodies (item_parts_from edition text (around_behind text open_around s.id.kind s) ss)
-holes_step edition text around s ss =
+-- the holes of a text's parts
+pub holes_from : (edition : EditionYear) (text : List ℕ) (around : List Outer) (ss : List ItemPlace) → bodies (item_parts_from edition text around ss) ≡ flat_map (place_holes edition text) ss
+holes_from edition text around [] = refl
+holes_from edition text around (s ∷ ss) =
     let around_it = still_open s.range.start around in
     let later = around_behind text around_it s.id.kind s in
     let path = part_path edition text around_it s in
-    let input = have_input around_it in
     let ms = body_members edition s.id.kind text (has_members s.id.kind) s.body in
     let next = item_parts_from edition text later ss in
-    flat_map-append (λ (p : Part). hole_inside p.body) (part_of_item edition text path input s ∷ member_parts edition text path input s) next
+    flat_map-append (λ (p : Part). hole_inside p.body) (part_of_item edition text path s ∷ member_parts edition text path s) next
     ∙ ap (λ l. l ++ bodies next)
-    (flat_map-cons (λ (p : Part). hole_inside p.body) (part_of_item edition text path input s) (member_parts edition text path input s)
-    ∙ (λ i. one_hole input (hole_of text s.range (fn_body s.id.kind s.body)) i ++ parts_holes text path (members_hidden edition text s) (input || is_input text s) ms i))
-
--- ---- without macros
-
-stay_without : (at : ℕ) (around : List Outer) → have_input around ≡ false → have_input (still_open at around) ≡ false
-stay_without at [] e = refl
-stay_without at (a ∷ around) e =
-    let parts = or_parts a.is_input (have_input around) e in
-    when (nat_lt at a.end) (λ h. rw (h, parts.0) (stay_without at around parts.1)) (λ h. rw h (stay_without at around parts.1))
-
-one_behind : (around : List Outer) (a : Outer) → have_input around ≡ false → a.is_input ≡ false → have_input (around ++ a ∷ []) ≡ false
-one_behind [] a e f = rw f refl
-one_behind (b ∷ around) a e f = let parts = or_parts b.is_input (have_input around) e in rw parts.0 (one_behind around a parts.1 f)
-
-behind_without : (text : List ℕ) (around : List Outer) (k : AstIdKind) (s : ItemPlace) → have_input around ≡ false → is_input text s ≡ false → have_input (around_behind text around k s) ≡ false
-behind_without text around kind.Module s e f = one_behind around _ e f
-behind_without text around _ s e f = e
-
--- the holes of a text's parts, of which none is a macro's input
-pub holes_from : (edition : EditionYear) (text : List ℕ) (around : List Outer) (ss : List ItemPlace) → have_input around ≡ false → list_any (is_input text) ss ≡ false → bodies (item_parts_from edition text around ss) ≡ flat_map (place_holes edition text) ss
-holes_from edition text around [] e f = refl
-holes_from edition text around (s ∷ ss) e f =
-    let around_it = still_open s.range.start around in
-    let later = around_behind text around_it s.id.kind s in
-    let parts = or_parts (is_input text s) (list_any (is_input text) ss) f in
-    let open_it : have_input around_it ≡ false = stay_without s.range.start around e in
-    let here : holes_around edition text around_it s ≡ place_holes edition text s = rw (open_it, parts.0) refl in
-    holes_step edition text around s ss
-    ∙ ap (λ l. l ++ bodies (item_parts_from edition text later ss)) here
-    ∙ ap (λ l. place_holes edition text s ++ l) (holes_from edition text later ss (behind_without text around_it s.id.kind s open_it parts.0) parts.1)
+    (flat_map-cons (λ (p : Part). hole_inside p.body) (part_of_item edition text path s) (member_parts edition text path s) ∙ ap (λ l. hole_at text s.range (fn_body s.id.kind s.body) ++ l) (parts_holes text path (members_hidden edition text s) ms))
+    ∙ ap (λ l. place_holes edition text s ++ l) (holes_from edition text later ss)
     ∙ sym (flat_map-cons (place_holes edition text) s ss)
-
--- ---- with some
-
--- holes, of which some are left out
-pub data Thinned : List Hole → List Hole → Type 0 where
-  none_left : Thinned [] []
-  left_out : {hs ks : List Hole} (k : Hole) → Thinned hs ks → Thinned hs (k ∷ ks)
-  left_in : {hs ks : List Hole} (k : Hole) → Thinned hs ks → Thinned (k ∷ hs) (k ∷ ks)
-
-all_in : (ks : List Hole) → Thinned ks ks
-all_in [] = none_left
-all_in (k ∷ ks) = left_in k (all_in ks)
-
-all_out : (ks : List Hole) → Thinned [] ks
-all_out [] = none_left
-all_out (k ∷ ks) = left_out k (all_out ks)
-
-thinned_append : {hs ks hs' ks' : List Hole} → Thinned hs ks → Thinned hs' ks' → Thinned (hs ++ hs') (ks ++ ks')
-thinned_append none_left u = u
-thinned_append (left_out k t) u = left_out k (thinned_append t u)
-thinned_append (left_in k t) u = left_in k (thinned_append t u)
-
-unless_thinned : (input : Bool) (ks : List Hole) → Thinned (holes_unless input ks) ks
-unless_thinned true ks = all_out ks
-unless_thinned false ks = all_in ks
-
--- the holes of a text's parts are some of those of its items
-pub holes_thinned : (edition : EditionYear) (text : List ℕ) (around : List Outer) (ss : List ItemPlace) → Thinned (bodies (item_parts_from edition text around ss)) (flat_map (place_holes edition text) ss)
-holes_thinned edition text around [] = none_left
-holes_thinned edition text around (s ∷ ss) =
-    let around_it = still_open s.range.start around in
-    let later = around_behind text around_it s.id.kind s in
-    let here : Thinned (holes_around edition text around_it s) (place_holes edition text s) =
-    thinned_append (unless_thinned (have_input around_it) (hole_at text s.range (fn_body s.id.kind s.body)))
-    (unless_thinned (have_input around_it || is_input text s) (member_holes text (body_members edition s.id.kind text (has_members s.id.kind) s.body))) in
-    subst (λ l. Thinned l (flat_map (place_holes edition text) (s ∷ ss))) (sym (holes_step edition text around s ss))
-    (subst (λ l. Thinned (holes_around edition text around_it s ++ bodies (item_parts_from edition text later ss)) l) (sym (flat_map-cons (place_holes edition text) s ss))
-    (thinned_append here (holes_thinned edition text later ss)))
 
 -- ---- kinds
 

@@ -22,7 +22,6 @@ use Rattle.rust_edits.proofs.ItemJoins.LongerTexts.{plain_back, plain_on, plain_
 use Rattle.rust_edits.proofs.Typing.MovedItems.{places_move}
 use Rattle.rust_edits.proofs.Typing.Typing.{same_ids}
 use Rattle.source_changes.specs.DocAttributes.{docs_as_comments}
-use Rattle.source_changes.specs.Foreign.{is_input}
 use Rattle.source_changes.specs.Inner.{ComeBehind}
 use Rattle.source_changes.specs.Parts.{Part}
 use Rattle.source_changes.specs.Rows.{bodies, hole}
@@ -30,15 +29,15 @@ use Rattle.source_changes.specs.Skeletons.{kept_tokens, skeleton}
 use Rattle.source_changes.proofs.AsComments.{in_braces, placed, still_behind}
 use Rattle.source_changes.proofs.LeftOutParts.{AreInside, holes_about, typed_alike}
 use Rattle.source_changes.proofs.Holes.{after_all}
-use Rattle.source_changes.proofs.ItemHoles.{holes_from, holes_thinned, place_holes}
-use Rattle.source_changes.proofs.HoleOrder.{AreRising, all_rise, thinned_rise}
+use Rattle.source_changes.proofs.ItemHoles.{holes_from, place_holes}
+use Rattle.source_changes.proofs.HoleOrder.{AreRising, all_rise}
 use Rattle.source_changes.specs.declared.kept.Hole.{Hole}
 use Rattle.source_changes.proofs.PartedItems.{AllStand, AreBefore, Parted, all_parted, may_hold}
 use Rattle.source_rows.specs.Sources.{Source}
 use Rattle.list_forms.specs.declared.lines.Form.{Form}
 use Rattle.source_changes.specs.Changes.{AreParts, IsCompared, seen_texts}
 use Rattle.source_changes.specs.declared.Compared.{Compared}
-use Rattle.source_changes.specs.Typing.{AreBraces, have_macros, HolesAreUnseen, MemberHolesAreUnseen, MovedHolesAreUnseen, TypingInMemberIsSame, TypingIsSame, braces, has_hole, has_member_hole, moved_hole}
+use Rattle.source_changes.specs.Typing.{AreBraces, HolesAreUnseen, MemberHolesAreUnseen, MovedHolesAreUnseen, TypingInMemberIsSame, TypingIsSame, braces, has_hole, has_member_hole, moved_hole}
 use Rattle.source_changes.proofs.Moving.{HolesBeside, holes_move}
 use Rattle.source_changes.proofs.TypedHoles.{fn_holds_none, function_is, holes_typed}
 use Rattle.source_changes.proofs.TypedMembers.{has_body, holds_none, items_typed, text_is}
@@ -139,11 +138,11 @@ module _ (edition : EditionYear) (q m m' s : List ℕ) (olds news : List Part) (
   abbrev Holes : Hole → (ℕ → ℕ) → List Hole → List Hole → Type 0
   Holes h place hs ks = Contains hs h × (ks ≡ map (moved_hole place) hs)
 
-  pub holes : (h : Hole) (place : ℕ → ℕ) (read again : FileView) → IsFileView edition old read → have_macros old read ≡ false → list_any has read.places ≡ true → IsFileView edition new again → have_macros new again ≡ false → list_any has_new again.places ≡ true
+  pub holes : (h : Hole) (place : ℕ → ℕ) (read again : FileView) → IsFileView edition old read → list_any has read.places ≡ true → IsFileView edition new again → list_any has_new again.places ≡ true
       → ((before behind : List ItemPlace) (one : ItemPlace) → AreBefore (length q) before → AllStand (suc (close_at q m)) (length old) behind → has one ≡ true → list_any has_new (map mv (before ++ one ∷ behind)) ≡ true
       → Holes h place (flat_map (place_holes edition old) (before ++ one ∷ behind)) (flat_map (place_holes edition new) (map mv (before ++ one ∷ behind))))
       → Holes h place (bodies olds) (bodies news)
-  holes h place read again f plain has_one g plain_new has_one_new each = by (all_parted (braces q m) has no_holder is_body (view_placed edition old before.0 before.1) some)
+  holes h place read again f has_one g has_one_new each = by (all_parted (braces q m) has no_holder is_body (view_placed edition old before.0 before.1) some)
     where
       some : list_any has before.0.places ≡ true
       some = ap (list_any has) (sym (same_places edition old read before.0 f before.1)) ∙ has_one
@@ -151,19 +150,13 @@ module _ (edition : EditionYear) (q m m' s : List ℕ) (olds news : List Part) (
       some_new : list_any has_new (map mv before.0.places) ≡ true
       some_new = ap (list_any has_new) (sym moved_all ∙ sym (same_places edition new again after.0 g after.1)) ∙ has_one_new
 
-      none : list_any (is_input old) before.0.places ≡ false
-      none = ap (list_any (is_input old)) (sym (same_places edition old read before.0 f before.1)) ∙ plain
-
-      none_new : list_any (is_input new) after.0.places ≡ false
-      none_new = ap (list_any (is_input new)) (sym (same_places edition new again after.0 g after.1)) ∙ plain_new
-
       by : Parted (braces q m) has no_holder is_body 0 (length old) before.0.places [] → Holes h place (bodies olds) (bodies news)
       by p =
           let list = p.before ++ p.one ∷ p.behind in
           let is : before.0.places ≡ list = p.is ∙ ap (λ l. p.before ++ p.one ∷ l) (append-nil p.behind) in
           let both = each p.before p.behind p.one p.are_before p.are_behind p.has_it (ap (λ l. list_any has_new (map mv l)) (sym is) ∙ some_new) in
-          let ours = ap bodies before.2 ∙ holes_from edition old [] before.0.places refl none ∙ ap (flat_map (place_holes edition old)) is in
-          let theirs = ap bodies after.2 ∙ holes_from edition new [] after.0.places refl none_new ∙ ap (flat_map (place_holes edition new)) (moved_all ∙ ap (map mv) is) in
+          let ours = ap bodies before.2 ∙ holes_from edition old [] before.0.places ∙ ap (flat_map (place_holes edition old)) is in
+          let theirs = ap bodies after.2 ∙ holes_from edition new [] after.0.places ∙ ap (flat_map (place_holes edition new)) (moved_all ∙ ap (map mv) is) in
           (subst (λ hs. Contains hs h) (sym ours) both.0, theirs ∙ both.1 ∙ sym (ap (map (moved_hole place)) ours))
 
 -- ---- the laws
@@ -171,8 +164,8 @@ module _ (edition : EditionYear) (q m m' s : List ℕ) (olds news : List Part) (
 pub moved_holes_are_unseen : MovedHolesAreUnseen
 moved_holes_are_unseen edition docs q m m' s olds news t a one moved_piece =
     let old = with_body q m s in
-    let rise : AreRising 0 (length old) (bodies olds) =
-    subst (AreRising 0 (length old)) (sym (ap bodies a.2)) (thinned_rise 0 (length old) (holes_thinned edition old [] a.0.places) (all_rise edition old (view_placed edition old a.0 a.1))) in
+    let are = ap bodies a.2 ∙ holes_from edition old [] a.0.places in
+    let rise : AreRising 0 (length old) (bodies olds) = subst (AreRising 0 (length old)) (sym are) (all_rise edition old (view_placed edition old a.0 a.1)) in
     let beside = (holes_move (length q) (close_at q m) (close_at q m') (omega arith) 0 (length old) (bodies olds) rise one).0 in
     same_seen docs q m m' s (bodies olds) (bodies news) t (subst (HolesBeside (length q) (close_at q m) (close_at q m') (bodies olds)) (sym moved_piece) beside)
 
@@ -180,7 +173,7 @@ pub holes_are_unseen : HolesAreUnseen
 holes_are_unseen edition docs q m m' s olds news t a b =
     let has = λ (m : List ℕ). has_hole (with_body q m s) (braces q m) in
     let h = holes edition q m m' s olds news t.typed a b (has m) (has m') (λ p e. fn_holds_none (with_body q m s) (braces q m) p e) (λ p e. (function_is (with_body q m s) (braces q m) p e).is_body)
-    (hole (suc (length q)) (close_at q m)) (shifted_by q m m') t.hole.read t.hole_new.read t.hole.is_read t.hole.without_macros t.hole.has_one t.hole_new.is_read t.hole_new.without_macros t.hole_new.has_one
+    (hole (suc (length q)) (close_at q m)) (shifted_by q m m') t.hole.read t.hole_new.read t.hole.is_read t.hole.has_one t.hole_new.is_read t.hole_new.has_one
     (λ before behind one x y e e'. holes_typed edition q m m' s (length (with_body q m s)) before behind one x y e e') in
     moved_holes_are_unseen edition docs q m m' s olds news t.stand a h.0 h.1
 
@@ -193,7 +186,7 @@ member_holes_are_unseen edition docs q p m m' r s olds news t a b =
     let old = text_is q p m r s in
     let new = text_is q p m' r s in
     let h = holes edition q x x' s olds news t.typed a b (has m) (has m') (holds_none edition q p m m' r s t.within t.begins t.begins_new m) (has_body edition q p m m' r s t.within t.begins t.begins_new m)
-    (hole (suc (length front)) (close_at front m)) (shifted_by front m m') t.hole.read t.hole_new.read t.hole.is_read t.hole.without_macros t.hole.has_one t.hole_new.is_read t.hole_new.without_macros t.hole_new.has_one
+    (hole (suc (length front)) (close_at front m)) (shifted_by front m m') t.hole.read t.hole_new.read t.hole.is_read t.hole.has_one t.hole_new.is_read t.hole_new.has_one
     (λ before behind one x y e e'. items_typed edition q p m m' r s t.within t.begins t.begins_new (length (with_body q (with_body p m r) s)) before behind one x y e e') in
     ap (λ z. seen_texts docs z olds) old
     ∙ moved_holes_are_unseen edition docs front m m' (r ++ 125 ∷ s) olds news t.stand (subst (λ z. AreParts edition z olds) old a) h.0 h.1

@@ -6,7 +6,6 @@ use Rattle.rust_lexer.specs.Symbol.{symbol_of}
 use Rattle.rust_lexer.specs.Tokens.{tokens}
 use Rattle.rust_cursor.specs.Words.{word_by}
 use Rattle.rust_paths.specs.declared.names.TextRange.{TextRange}
-use Rattle.source_changes.specs.Foreign.{has_foreign}
 use Rattle.source_rows.specs.Labels.{text_at}
 
 -- a token is this word
@@ -37,11 +36,11 @@ linked_words = codes "no_mangle" ∷ codes "export_name" ∷ []
 abbrev pub is_seen_beyond : List Piece → List Piece → Bool
 is_seen_beyond item inside = list_any (has_word item) linked_words || list_any (has_word inside) outer_words
 
--- what stands in front of a function's body makes others see the body: it is run, or a macro may read it
+-- what stands in front of a function's body makes others see the body
 abbrev pub is_run_early : List Piece → Bool
-is_run_early ts = has_const_fn false ts || (list_any (has_word ts) macro_words || has_foreign ts)
+is_run_early ts = has_const_fn false ts || list_any (has_word ts) macro_words
 
--- With these tokens in front of its body and these in its braces a function is neither a `const fn` nor a macro, no attribute is other than the language's, and no word in them reaches out.
+-- With these tokens in front of its body and these in its braces a function is neither a `const fn` nor a macro, and no word in them reaches out.
 abbrev pub is_unseen : List Piece → List Piece → Bool
 is_unseen front inside = not (is_run_early front) && not (list_any (has_word inside) outer_words)
 

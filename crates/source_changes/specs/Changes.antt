@@ -49,7 +49,7 @@ changes_beside edition is_public has_docs old new olds news =
     or_else (seen_changes is_public (row_moves (rows_standing has_docs old.text olds) (rows_standing has_docs new.text news)))
     (row_changes (outside_rows is_public has_docs edition old.text olds) (outside_rows is_public has_docs edition new.text news))
 
--- what became of items and members, and where nothing did by their labels, all else; if only what is public counts, of what is that in one of the texts
+-- what became of items and members, and where nothing did by their labels, all else; if only what is public counts, of what is seen outside of its module in one of the texts
 abbrev pub lines_between : EditionYear → Bool → Bool → Form → Source → Source → List Part → List Part → List ℕ
 lines_between edition is_public has_docs form old new olds news =
     let items = seen_changes is_public (row_changes (part_rows has_docs old.text olds) (part_rows has_docs new.text news)) in

@@ -1,4 +1,4 @@
--- What is not public, by what is written of it: it is hidden.
+-- What is seen in its module alone, by what is written of it: it is hidden.
 use Rattle.std.specs.Prelude.{ℕ, Bool, true, false, not, ◌&&◌, if◌then◌else◌, List, Option, Some, None}
 use Rattle.hir_input.specs.declared.ast.Visibility.{Visibility}
 use Rattle.hir_input.specs.declared.ast.Visibility.TheVariants as written
@@ -17,10 +17,11 @@ use Rattle.source_changes.specs.Bodies.{is_seen_beyond}
 use Rattle.source_rows.specs.Labels.{text_at}
 use Rattle.source_rows.specs.Types.{is_of_trait}
 
--- a visibility ends in the crate: it is not `pub`
-abbrev pub ends_inside : Option Visibility → Bool
-ends_inside (Some written.Pub) = false
-ends_inside _ = true
+-- a visibility ends at the module around it: nothing is written, or `pub(self)`
+abbrev pub ends_here : Option Visibility → Bool
+ends_here None = true
+ends_here (Some written.PubSelf) = true
+ends_here (Some _) = false
 
 -- what stands in a range is seen whatever its visibility: linkers see it, or something in its value, if it has one, reaches out of that
 abbrev pub reaches_out : List ℕ → TextRange → Option TextRange → Bool
@@ -44,13 +45,13 @@ item_value kind.Const range body = Some range
 item_value kind.Static range body = Some range
 item_value _ range body = None
 
--- the visibility that is written of an item, which this is the text of, ends in the crate
-abbrev pub is_for_its_crate : EditionYear → List ℕ → Bool
-is_for_its_crate edition item = ends_inside (front (tokens_of edition item)).0.visibility
+-- the visibility that is written of an item, which this is the text of, ends at its module
+abbrev pub is_for_its_module : EditionYear → List ℕ → Bool
+is_for_its_module edition item = ends_here (front (tokens_of edition item)).0.visibility
 
--- an item is hidden that can have a visibility and is not `pub`
+-- an item is hidden that can have a visibility and has none, or one that ends at its module
 abbrev pub is_item_hidden : EditionYear → List ℕ → ItemPlace → Bool
-is_item_hidden edition text s = has_visibility s.id.kind && (not (reaches_out text s.range (item_value s.id.kind s.range s.body)) && is_for_its_crate edition (text_at text s.range))
+is_item_hidden edition text s = has_visibility s.id.kind && (not (reaches_out text s.range (item_value s.id.kind s.range s.body)) && is_for_its_module edition (text_at text s.range))
 
 -- ---- members
 
@@ -71,7 +72,7 @@ member_value _ range body = None
 -- by its own visibility; a macro call has none
 abbrev pub is_hidden_itself : List ℕ → MemberKind → MemberRead → Bool
 is_hidden_itself text member.MacroCall m = false
-is_hidden_itself text k m = not (reaches_out text m.range (member_value k m.range m.body)) && ends_inside m.visibility
+is_hidden_itself text k m = not (reaches_out text m.range (member_value k m.range m.body)) && ends_here m.visibility
 
 -- a member is hidden as its item's members are, or else by itself
 abbrev pub is_member_hidden : Option Bool → List ℕ → MemberRead → Bool

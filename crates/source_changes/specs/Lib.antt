@@ -1,4 +1,3 @@
-pub mod Foreign
 pub mod Bodies
 pub mod Hiding
 pub mod Parts

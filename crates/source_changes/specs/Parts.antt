@@ -1,6 +1,5 @@
 -- The items of a text and their members, as parts of it.
-use Rattle.std.specs.Prelude.{ℕ, Bool, true, false, ◌||◌, nat_eq, nat_lt, if◌then◌else◌, List, [], ◌∷◌, ◌++◌, flat_map, map, filter, codes, Option, Some, None}
-use Rattle.std.specs.List.{ends_with, list_any}
+use Rattle.std.specs.Prelude.{ℕ, Bool, nat_lt, List, [], ◌∷◌, ◌++◌, flat_map, map, filter, codes, Option, Some, None}
 use Rattle.hir_input.specs.declared.edition.EditionYear.{EditionYear}
 use Rattle.hir_input.specs.declared.ids.AstIdKind.{AstIdKind}
 use Rattle.hir_input.specs.declared.ids.AstIdKind.TheVariants as kind
@@ -13,10 +12,9 @@ use Rattle.source_rows.specs.Headers.{header}
 use Rattle.source_rows.specs.Labels.{item_word, has_members, member_word, text_at, text_at_some}
 use Rattle.source_rows.specs.Listed.{body_members}
 use Rattle.source_changes.specs.Bodies.{hole_of}
-use Rattle.source_changes.specs.Foreign.{is_input}
 use Rattle.source_changes.specs.Hiding.{hides_members, is_item_hidden, is_member_hidden}
 
--- a part: what it is called, where it is told, where it stands, the name that counts among the tokens around it, the braces whose tokens do not count, and whether it is not public
+-- a part: what it is called, where it is told, where it stands, the name that counts among the tokens around it, the braces whose tokens do not count, and whether it is seen in its module alone
 pub record Part : Type 0 where
   pub label : List ℕ
   pub at : ℕ
@@ -25,20 +23,10 @@ pub record Part : Type 0 where
   pub body : Option TextRange
   pub is_hidden : Bool
 
--- a module around an item: where it ends, its name, and whether the functions in it may be a macro's input
+-- a module around an item: where it ends, and its name
 pub record Outer : Type 0 where
   pub end : ℕ
   pub name : List ℕ
-  pub is_input : Bool
-
--- one of the modules around is such a macro's input
-abbrev pub have_input : List Outer → Bool
-have_input around = list_any (λ a. a.is_input) around
-
--- braces that are a hole, but not in a macro's input
-abbrev pub hole_unless : Bool → Option TextRange → Option TextRange
-hole_unless true hole = None
-hole_unless false hole = hole
 
 -- the names of modules, from the outermost on, with `::` behind each
 abbrev pub modules_path : List Outer → List ℕ
@@ -65,22 +53,22 @@ kept_name _ name = None
 abbrev pub member_path : List ℕ → List ℕ → Option TextRange → List ℕ
 member_path text path name = path ++ codes "::" ++ text_at_some text name
 
--- a member of an item whose members are hidden with it or not, or each by itself, and may be a macro's input
-abbrev pub member_part : List ℕ → List ℕ → Option Bool → Bool → MemberRead → Part
-member_part text path hidden input m = record {
+-- a member of an item whose members are hidden with it or not, or each by itself
+abbrev pub member_part : List ℕ → List ℕ → Option Bool → MemberRead → Part
+member_part text path hidden m = record {
   label = label (member_word m.kind) (member_path text path m.name);
   at = part_told_at m.range m.name;
   range = m.range;
   kept = kept_name m.kind m.name;
-  body = hole_unless input (hole_of text m.range m.body);
+  body = hole_of text m.range m.body;
   is_hidden = is_member_hidden hidden text m;
 }
 
 abbrev pub members_hidden : EditionYear → List ℕ → ItemPlace → Option Bool
 members_hidden edition text s = hides_members edition (text_at text s.range) s.id.kind (is_item_hidden edition text s)
 
-abbrev pub member_parts : EditionYear → List ℕ → List ℕ → Bool → ItemPlace → List Part
-member_parts edition text path input s = map (member_part text path (members_hidden edition text s) (input || is_input text s)) (body_members edition s.id.kind text (has_members s.id.kind) s.body)
+abbrev pub member_parts : EditionYear → List ℕ → List ℕ → ItemPlace → List Part
+member_parts edition text path s = map (member_part text path (members_hidden edition text s)) (body_members edition s.id.kind text (has_members s.id.kind) s.body)
 
 -- ---- items
 
@@ -89,14 +77,9 @@ abbrev pub impl_braces : AstIdKind → Option TextRange → Option TextRange
 impl_braces kind.Impl body = body
 impl_braces _ body = None
 
--- what stands for the list of a use, whose header ends before it
-abbrev pub list_mark : AstIdKind → List ℕ → List ℕ
-list_mark kind.Use header = if ends_with nat_eq header (codes "::") then codes "{..}" else []
-list_mark _ header = []
-
 -- an item's name as it is written; without one, its header
 abbrev pub part_name : EditionYear → List ℕ → ItemPlace → Option TextRange → List ℕ
-part_name edition text s None = let name = header edition text s.range (impl_braces s.id.kind s.body) in name ++ list_mark s.id.kind name
+part_name edition text s None = header edition text s.range (impl_braces s.id.kind s.body)
 part_name edition text s (Some name) = text_at text name
 
 -- the braces of a function alone
@@ -104,13 +87,13 @@ abbrev pub fn_body : AstIdKind → Option TextRange → Option TextRange
 fn_body kind.Fn body = body
 fn_body _ body = None
 
-abbrev pub part_of_item : EditionYear → List ℕ → List ℕ → Bool → ItemPlace → Part
-part_of_item edition text path input s = record {
+abbrev pub part_of_item : EditionYear → List ℕ → List ℕ → ItemPlace → Part
+part_of_item edition text path s = record {
   label = label (item_word s.id.kind) path;
   at = part_told_at s.range s.name;
   range = s.range;
   kept = None;
-  body = hole_unless input (hole_of text s.range (fn_body s.id.kind s.body));
+  body = hole_of text s.range (fn_body s.id.kind s.body);
   is_hidden = is_item_hidden edition text s;
 }
 
@@ -119,9 +102,7 @@ part_path edition text around s = modules_path around ++ part_name edition text 
 
 -- an item, and behind it its members
 abbrev pub parts_of : EditionYear → List ℕ → List Outer → ItemPlace → List Part
-parts_of edition text around s =
-    let path = part_path edition text around s in
-    part_of_item edition text path (have_input around) s ∷ member_parts edition text path (have_input around) s
+parts_of edition text around s = part_of_item edition text (part_path edition text around s) s ∷ member_parts edition text (part_path edition text around s) s
 
 -- the modules that end behind a place
 abbrev pub still_open : ℕ → List Outer → List Outer
@@ -129,7 +110,7 @@ still_open place around = filter (λ a. nat_lt place a.end) around
 
 -- what stands around an item that follows this one, where these stand around it
 abbrev pub around_behind : List ℕ → List Outer → AstIdKind → ItemPlace → List Outer
-around_behind text around kind.Module s = around ++ record { end = s.range.end; name = text_at_some text s.name; is_input = is_input text s } ∷ []
+around_behind text around kind.Module s = around ++ record { end = s.range.end; name = text_at_some text s.name } ∷ []
 around_behind text around _ s = around
 
 abbrev pub item_parts_from : EditionYear → List ℕ → List Outer → List ItemPlace → List Part

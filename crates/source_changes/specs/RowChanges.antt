@@ -7,7 +7,7 @@ use Rattle.source_changes.specs.declared.matching.Match.{Match}
 use Rattle.source_changes.specs.declared.matching.Match.TheVariants.{Gone, Came, Stays}
 use Rattle.source_changes.specs.Matches.{matches_of}
 
--- a row: what it is called, where it is told, the texts of its own tokens, and whether it is not public
+-- a row: what it is called, where it is told, the texts of its own tokens, and whether it is seen in its module alone
 pub record TextRow : Type 0 where
   pub label : List ℕ
   pub at : ℕ
@@ -46,7 +46,7 @@ row_change_of (Stays r s) = if same_texts r.own s.own then [] else row_change Ch
 abbrev pub row_changes : List TextRow → List TextRow → List RowChange
 row_changes olds news = flat_map row_change_of (matches_of same_label olds news)
 
--- all changes, or those of what is public in one of the texts
+-- all changes, or those of what is seen outside of its module in one of the texts
 abbrev pub seen_changes : Bool → List RowChange → List RowChange
 seen_changes false cs = cs
 seen_changes true cs = filter (λ c. not c.is_hidden) cs

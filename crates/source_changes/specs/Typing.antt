@@ -11,7 +11,6 @@ use Rattle.rust_edits.specs.Typing.Laws.{with_body, BeginsPlain, OpensAt, IsType
 use Rattle.rust_edits.specs.Typing.Moved.{close_at, shifted_by}
 use Rattle.rust_items.specs.Members.{MemberRead}
 use Rattle.source_changes.specs.Bodies.{hole_of}
-use Rattle.source_changes.specs.Foreign.{is_input}
 use Rattle.source_rows.specs.Labels.{has_members}
 use Rattle.source_rows.specs.Listed.{body_members}
 use Rattle.source_changes.specs.Parts.{Part, fn_body}
@@ -37,15 +36,10 @@ is_range range (Some r) = r.start == range.start && r.end == range.end
 abbrev pub has_hole : List ℕ → TextRange → ItemPlace → Bool
 has_hole text body s = is_range body (hole_of text s.range (fn_body s.id.kind s.body))
 
--- the functions in an item of a text may be a macro's input
-abbrev pub have_macros : List ℕ → FileView → Bool
-have_macros text read = list_any (is_input text) read.places
-
--- such a function is read of the text, and what stands in its modules, impls and traits is no macro's input: their attributes are the language's
+-- such a function is read of the text
 pub record IsHoleIn (edition : EditionYear) (text : List ℕ) (body : TextRange) : Type 0 where
   pub read : FileView
   pub is_read : IsFileView edition text read
-  pub without_macros : have_macros text read ≡ false
   pub has_one : list_any (has_hole text body) read.places ≡ true
 
 -- ---- the laws
@@ -99,11 +93,10 @@ is_member_hole text body m = is_range body (hole_of text m.range m.body)
 abbrev pub has_member_hole : EditionYear → List ℕ → TextRange → TextRange → ItemPlace → Bool
 has_member_hole edition text item body s = is_range item s.body && list_any (is_member_hole text body) (body_members edition s.id.kind text (has_members s.id.kind) s.body)
 
--- such an item is read of the text, and again nothing is a macro's input
+-- such an item is read of the text
 pub record IsMemberHoleIn (edition : EditionYear) (text : List ℕ) (item body : TextRange) : Type 0 where
   pub read : FileView
   pub is_read : IsFileView edition text read
-  pub without_macros : have_macros text read ≡ false
   pub has_one : list_any (has_member_hole edition text item body) read.places ≡ true
 
 -- A text `q { p { m } r } s` of which what stands in a member's hole was typed anew, and there is a hole still. Members are read of the braces of

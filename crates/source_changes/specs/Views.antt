@@ -11,7 +11,7 @@ abbrev pub part_view : code_part.Part → Part
 part_view p = record { label = string_bytes p.label; at = p.at; range = p.range; kept = p.kept; body = p.body; is_hidden = p.is_hidden }
 
 abbrev pub outer_view : code_around.Around → Outer
-outer_view a = record { end = a.end; name = a.name.now; is_input = a.is_input }
+outer_view a = record { end = a.end; name = a.name.now }
 
 -- a file with what finds its lines, as plain data
 abbrev pub lined_view : code_side.Side → Source

@@ -1,4 +1,4 @@
-//! What is not public, by what is written of it: it is hidden.
+//! What is seen in its module alone, by what is written of it: it is hidden.
 
 ghost use Rattle.std.specs.Prelude.{◌≡◌, IfOk, None, Some, false, if◌then◌else◌, option_copied};
 ghost use Rattle.rust_items.specs.MemberViews.{member_view};
@@ -13,13 +13,13 @@ use rust_leaves::{Wanted, WantedMetas, wanted_front};
 use source_rows::{is_of_trait, text_at};
 use std::alloc::{AllocError, Global};
 
-/// Whether a visibility ends in the crate.
-fn ends_inside(visibility: Option<&Visibility>) -> bool
-    ensures { result ≡ spec.ends_inside (option_copied visibility.entry) }
+/// Whether a visibility ends at the module around it.
+fn ends_here(visibility: Option<&Visibility>) -> bool
+    ensures { result ≡ spec.ends_here (option_copied visibility.entry) }
 {
     match visibility {
-        Some(Visibility::Pub) => false,
-        _ => true,
+        None | Some(Visibility::PubSelf) => true,
+        Some(_) => false,
     }
 }
 
@@ -57,10 +57,10 @@ fn item_value(item: &ItemPlace) -> Option<TextRange>
     }
 }
 
-/// Whether the visibility of an item, which this is the text of, ends in the crate.
+/// Whether the visibility of an item, which this is the text of, ends at its module.
 #[tactic(auto, unfolding(rust_leaves::specs::Clipped::clipped_front, rust_leaves::specs::Clipped::with_value))]
-fn is_for_its_crate(alloc: Global, item: &str, edition: EditionYear) -> Result<bool, AllocError>
-    ensures { IfOk result (λ is. is ≡ spec.is_for_its_crate edition item.now) }
+fn is_for_its_module(alloc: Global, item: &str, edition: EditionYear) -> Result<bool, AllocError>
+    ensures { IfOk result (λ is. is ≡ spec.is_for_its_module edition item.now) }
 {
     let mut cursor = Cursor::new(item, edition);
     let wanted = Wanted {
@@ -68,10 +68,10 @@ fn is_for_its_crate(alloc: Global, item: &str, edition: EditionYear) -> Result<b
         metas: WantedMetas::Conditions,
     };
     let front = wanted_front(alloc, &mut cursor, wanted)?;
-    Ok(ends_inside(front.visibility.as_ref()))
+    Ok(ends_here(front.visibility.as_ref()))
 }
 
-/// Whether an item can have a visibility and is not `pub`.
+/// Whether an item can have a visibility and has none, or one that ends at its module.
 pub(crate) fn is_item_hidden(
     alloc: Global,
     text: &str,
@@ -86,7 +86,7 @@ pub(crate) fn is_item_hidden(
     if reaches_out(text, item.range, item_value(item)) {
         return Ok(false);
     }
-    is_for_its_crate(alloc, text_at(text, item.range), edition)
+    is_for_its_module(alloc, text_at(text, item.range), edition)
 }
 
 fn of_impl(is_of_trait: bool) -> Option<bool>
@@ -129,8 +129,7 @@ fn is_hidden_itself(text: &str, member: &Member) -> bool
     if let MemberKind::MacroCall = member.kind {
         return false;
     }
-    !reaches_out(text, member.range, member_value(member))
-        && ends_inside(member.visibility.as_ref())
+    !reaches_out(text, member.range, member_value(member)) && ends_here(member.visibility.as_ref())
 }
 
 /// Whether a member is hidden: as its item's members are, or else by itself.

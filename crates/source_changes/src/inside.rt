@@ -6,7 +6,6 @@ ghost use Rattle.rust_cursor.specs.Words.{word_by};
 ghost use Rattle.rust_lexer.specs.Tokens.{tokens};
 ghost use Rattle.source_changes.specs.Bodies as spec;
 
-use crate::foreign::has_foreign;
 use memchr::memmem;
 use rust_items::TextRange;
 use rust_lexer::{Lexer, Token, TokenKind};
@@ -28,7 +27,7 @@ const OUTER_WORDS: [&str; 6] = [
     "global_asm",
 ];
 
-pub(crate) fn word<'t>(token: &Token<'t>) -> &'t str
+fn word<'t>(token: &Token<'t>) -> &'t str
     ensures { result.now ≡ word_by token.now.kind token.now.text }
 {
     match token.kind() {
@@ -95,11 +94,11 @@ fn has_const_fn(text: &str) -> bool
     has_const_fn_tokens(text)
 }
 
-/// Whether what stands in front of a function's body makes others see the body: it is run, or a macro may read it.
+/// Whether what stands in front of a function's body makes others see the body.
 fn is_run_early(front: &str) -> bool
     ensures { result ≡ spec.is_run_early (tokens front.now) }
 {
-    has_const_fn(front) || has_any(front, &MACRO_WORDS) || has_foreign(front)
+    has_const_fn(front) || has_any(front, &MACRO_WORDS)
 }
 
 /// Whether a function with this in front of its body, and this in its braces, is neither a `const fn` nor a macro, and

@@ -3,7 +3,6 @@
 
 mod change_kind;
 mod doc_attributes;
-mod foreign;
 mod hiding;
 mod inside;
 mod kept;
@@ -140,7 +139,7 @@ struct Pair<'a> {
     olds: &'a [Part],
     news: &'a [Part],
     edition: EditionYear,
-    /// Whether only what is public counts.
+    /// Whether only what is seen outside of its module counts.
     is_public: bool,
     has_docs: bool,
     form: Form,
@@ -310,8 +309,9 @@ pub fn compare(
     Ok(Compared { text, is_same })
 }
 
-/// The same of what is public, by what is written of it, in one of the two. An item or a member is not that can have a
-/// visibility, and is not `pub`; variants and what stands in a trait are as their item. (`Hiding` says it all.)
+/// The same of what is public: what is seen outside of its module, by what is written of it, in one of the two. An item
+/// or a member is not that can have a visibility, and has none or one that ends at its module; variants and what stands
+/// in a trait are as their item. (`Hiding` says it all.)
 ///
 /// Nothing is told of the order of items. The attributes of the file stand outside of all items.
 ///

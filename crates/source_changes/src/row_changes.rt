@@ -59,7 +59,7 @@ pub struct Change<'r> {
     pub label: &'r str,
     /// Its byte place in the new text, or in the old one where it was removed.
     pub at: usize,
-    /// Whether it is not public, in each text that has it.
+    /// Whether it is seen in its module alone, in each text that has it.
     pub is_hidden: bool,
 }
 
@@ -167,7 +167,7 @@ fn seen_ones<'r>(alloc: Global, changes: &[Change<'r>]) -> Result<Vec<Change<'r>
     Ok(seen)
 }
 
-/// All changes, or where only what is public counts those of what is public in one of the texts.
+/// All changes, or where only what is public counts those of what is seen outside of its module in one of the texts.
 ///
 /// # Errors
 ///

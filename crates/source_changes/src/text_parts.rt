@@ -1,15 +1,12 @@
 //! The items of a text and their members, as parts of it.
 
-ghost use Rattle.std.specs.Prelude.{◌≡◌, ◌++◌, ◌∷◌, ◌||◌, [], IfOk, OnOk, codes, map, nat_eq, string_bytes};
-ghost use Rattle.std.specs.List.{ends_with};
+ghost use Rattle.std.specs.Prelude.{◌≡◌, ◌++◌, ◌∷◌, [], IfOk, OnOk, map, string_bytes};
 ghost use Rattle.rust_items.specs.MemberViews.{member_view};
 ghost use Rattle.source_rows.specs.Labels.{member_word};
-ghost use Rattle.source_changes.specs.Foreign.{is_input};
 ghost use Rattle.source_changes.specs.Hiding.{is_item_hidden};
 ghost use Rattle.source_changes.specs.Parts as spec;
 ghost use Rattle.source_changes.specs.Views.{outer_view, part_view};
 
-use crate::foreign::is_input;
 use crate::hiding::{hides_members, is_item_hidden, is_member_hidden};
 use crate::inside::hole_of;
 use hir_input::{AstIdKind, EditionYear};
@@ -32,44 +29,15 @@ pub struct Part {
     pub kept: Option<TextRange>,
     /// The braces whose tokens do not count.
     pub body: Option<TextRange>,
-    /// Whether it is not public, by what is written of it.
+    /// Whether it is seen in its module alone, by what is written of it.
     pub is_hidden: bool,
 }
 
-/// A module around an item: where it ends, its name, and whether the functions in it may be a macro's input.
+/// A module around an item: where it ends, and its name.
 #[derive(Clone, Copy)]
 pub(crate) struct Around<'t> {
     pub end: usize,
     pub name: &'t str,
-    pub is_input: bool,
-}
-
-/// Whether what stands in one of the modules around may be a macro's input.
-fn have_input(around: &[Around<'_>]) -> bool
-    ensures { result ≡ spec.have_input (map outer_view around.now) }
-{
-    let mut left = around;
-    while let [module, more @ ..] = left {
-        if module.is_input {
-            return true;
-        }
-        left = more;
-    }
-    false
-}
-
-/// Whether an item may be in a macro's input, or what stands in it.
-fn is_input_with(in_input: bool, text: &str, item: &ItemPlace) -> bool
-    ensures { result ≡ (in_input || is_input text.now item.now) }
-{
-    in_input || is_input(text, item)
-}
-
-/// Braces that are a hole, but not in a macro's input.
-fn hole_unless(is_input: bool, hole: Option<TextRange>) -> Option<TextRange>
-    ensures { result ≡ spec.hole_unless is_input hole }
-{
-    if is_input { None } else { hole }
 }
 
 fn told_at(range: TextRange, name: Option<TextRange>) -> usize
@@ -115,19 +83,17 @@ fn member_part(
     text: &str,
     path: &str,
     hidden: Option<bool>,
-    is_input: bool,
     member: &Member,
 ) -> Result<Part, AllocError>
     ensures { IfOk result (λ part. part_view part
-        ≡ spec.member_part text.now path.now hidden is_input (member_view member.now)) }
+        ≡ spec.member_part text.now path.now hidden (member_view member.now)) }
 {
-    let hole = hole_of(text, member.range, member.body);
     Ok(Part {
         label: member_label(alloc, text, path, member)?,
         at: told_at(member.range, member.name),
         range: member.range,
         kept: kept_name(member.kind, member.name),
-        body: hole_unless(is_input, hole),
+        body: hole_of(text, member.range, member.body),
         is_hidden: is_member_hidden(hidden, text, member),
     })
 }
@@ -137,16 +103,14 @@ fn push_members(
     text: &str,
     path: &str,
     hidden: Option<bool>,
-    is_input: bool,
     members: &[Member],
     parts: &mut Vec<Part>,
 ) -> Result<(), AllocError>
-    ensures { let one = spec.member_part text.now path.now hidden is_input in
-        let more = map one (map member_view members.now) in
+    ensures { let more = map (spec.member_part text.now path.now hidden) (map member_view members.now) in
         OnOk result (map part_view parts.new.items ≡ map part_view parts.old.items ++ more) }
 {
     for member in members {
-        let part = member_part(alloc, text, path, hidden, is_input, member)?;
+        let part = member_part(alloc, text, path, hidden, member)?;
         parts.push(part)?;
     }
     Ok(())
@@ -158,23 +122,6 @@ fn impl_braces(kind: AstIdKind, body: Option<TextRange>) -> Option<TextRange>
     match kind {
         AstIdKind::Impl => body,
         _ => None,
-    }
-}
-
-/// Whether a header ends before a list.
-fn ends_before_list(header: &str) -> bool
-    ensures { result ≡ ends_with nat_eq header.now (codes "::") }
-{
-    header.as_bytes().ends_with(b"::")
-}
-
-/// What stands for the list of a use, whose header ends before it.
-fn list_mark(kind: AstIdKind, header: &str) -> &'static str
-    ensures { result.now ≡ spec.list_mark kind header.now }
-{
-    match kind {
-        AstIdKind::Use => { if ends_before_list(header) { "{..}" } else { "" } }
-        _ => "",
     }
 }
 
@@ -193,8 +140,7 @@ fn push_name(
         None => {
             let braces = impl_braces(item.id.kind, item.body);
             let header = header(alloc, text, edition, item.range, braces)?;
-            out.push_str(&header)?;
-            out.push_str(list_mark(item.id.kind, &header))
+            out.push_str(&header)
         }
     }
 }
@@ -253,14 +199,12 @@ fn item_part(
     text: &str,
     edition: EditionYear,
     path: &str,
-    is_input: bool,
     item: &ItemPlace,
 ) -> Result<Part, AllocError>
     ensures { IfOk result (λ part. part_view part
-        ≡ spec.part_of_item edition text.now path.now is_input item.now) }
+        ≡ spec.part_of_item edition text.now path.now item.now) }
 {
     let is_hidden = is_item_hidden(alloc, text, edition, item)?;
-    let hole = hole_of(text, item.range, fn_body(item.id.kind, item.body));
     let mut label = String::with_capacity(alloc, ROOM)?;
     push_label(&mut label, kind_texts(item.id.kind).word, path)?;
     Ok(Part {
@@ -268,12 +212,12 @@ fn item_part(
         at: told_at(item.range, item.name),
         range: item.range,
         kept: None,
-        body: hole_unless(is_input, hole),
+        body: hole_of(text, item.range, fn_body(item.id.kind, item.body)),
         is_hidden,
     })
 }
 
-/// Adds the members of an item, which is hidden or not, and may be in a macro's input.
+/// Adds the members of an item, which is hidden or not.
 fn push_inside(
     alloc: Global,
     text: &str,
@@ -281,18 +225,16 @@ fn push_inside(
     path: &str,
     item: &ItemPlace,
     is_hidden: bool,
-    in_input: bool,
     parts: &mut Vec<Part>,
 ) -> Result<(), AllocError>
     requires { is_hidden ≡ is_item_hidden edition text.now item.now }
-    ensures { let more = spec.member_parts edition text.now path.now in_input item.now in
+    ensures { let more = spec.member_parts edition text.now path.now item.now in
         OnOk result (map part_view parts.new.items ≡ map part_view parts.old.items ++ more) }
 {
     let (kind, own) = (item.id.kind, text_at(text, item.range));
     let hidden = hides_members(alloc, own, edition, kind, is_hidden)?;
-    let is_input = is_input_with(in_input, text, item);
     let members = members_in(alloc, kind, text, item.body, edition)?;
-    push_members(alloc, text, path, hidden, is_input, &members, parts)
+    push_members(alloc, text, path, hidden, &members, parts)
 }
 
 /// Adds an item, and behind it its members.
@@ -308,13 +250,10 @@ fn push_item(
         OnOk result (map part_view parts.new.items ≡ map part_view parts.old.items ++ more) }
 {
     let path = item_path(alloc, text, edition, around, item)?;
-    let in_input = have_input(around);
-    let part = item_part(alloc, text, edition, &path, in_input, item)?;
+    let part = item_part(alloc, text, edition, &path, item)?;
     let is_hidden = part.is_hidden;
     parts.push(part)?;
-    push_inside(
-        alloc, text, edition, &path, item, is_hidden, in_input, parts,
-    )
+    push_inside(alloc, text, edition, &path, item, is_hidden, parts)
 }
 
 /// The modules that end behind a place.
@@ -349,7 +288,6 @@ fn enter<'t>(
             around.push(Around {
                 end: item.range.end,
                 name: text_at_some(text, item.name),
-                is_input: is_input(text, item),
             })?;
             Ok(())
         }

@@ -13,9 +13,7 @@ plain_text-requires c =
     let ps = c.in_ok-problems.problems.items in
     let rs = map repeated_import_view c.in_ok-repeats.repeats.items in
     let value : view c.in_ok-value.value ≡ notice c.args.uri.now d.version (map view c.push_repeats.new.values.items) = search rules in
-    let placed : map view c.push_repeats.new.values.items ≡ diagnostics c.in_ok-places.places.units c.in_ok-places.places.text ps rs = search rules in
-    let same : c.in_ok-places.places.text ≡ d.text = search rules in
-    let told : map view c.push_repeats.new.values.items ≡ diagnostics c.args.units d.text ps rs = placed ∙ (λ i. diagnostics (c.in_ok-places.ensures.units i) (same i) ps rs) in
+    let told : map view c.push_repeats.new.values.items ≡ diagnostics c.args.units d.text ps rs = search rules in
     ap has_float (value ∙ ap (notice c.args.uri.now d.version) told) ∙ notice_none c.args.uri.now d.version (diagnostics c.args.units d.text ps rs) (diagnostics_none c.args.units d.text ps rs)
 
 pub returns : goal.returns
@@ -24,8 +22,6 @@ returns c =
     let ps = c.in_ok-problems.problems.items in
     let rs = map repeated_import_view c.in_ok-repeats.repeats.items in
     let value : view c.in_ok-value.value ≡ notice c.args.uri.now d.version (map view c.push_repeats.new.values.items) = search rules in
-    let placed : map view c.push_repeats.new.values.items ≡ diagnostics c.in_ok-places.places.units c.in_ok-places.places.text ps rs = search rules in
-    let same : c.in_ok-places.places.text ≡ d.text = search rules in
-    let told : map view c.push_repeats.new.values.items ≡ diagnostics c.args.units d.text ps rs = placed ∙ (λ i. diagnostics (c.in_ok-places.ensures.units i) (same i) ps rs) in
+    let told : map view c.push_repeats.new.values.items ≡ diagnostics c.args.units d.text ps rs = search rules in
     let text : string_bytes c.in_ok-text.text ≡ compact_text (view c.in_ok-value.value) = search rules in
     (ps, c.in_ok-problems.ensures, rs, c.in_ok-repeats.ensures, text ∙ ap compact_text (value ∙ ap (notice c.args.uri.now d.version) told))

@@ -5,4 +5,4 @@ use Rattle.lsp.specs.Diagnostics.{repeat_diagnostic}
 use Rattle.lsp.proofs.diagnostics.push_repeats.Given as goal
 
 abbrev pub invariant-loop-repeat : goal.invariant-loop-repeat
-invariant-loop-repeat l = map view l.values.items ≡ map view l.initial.values.items ++ map (repeat_diagnostic l.fn.text.units l.fn.text.text) (map repeated_import_view (take l.repeat-index l.repeats))
+invariant-loop-repeat l = map view l.values.items ≡ map view l.initial.values.items ++ map (repeat_diagnostic l.fn.units l.fn.text) (map repeated_import_view (take l.repeat-index l.repeats))

@@ -9,7 +9,7 @@ use Rattle.lsp.specs.Inner.{listed_reading}
 use Rattle.lsp.specs.Servers.{flat_in, page_of}
 use Rattle.lsp.specs.Symbols.{tree_symbols}
 use Rattle.lsp.specs.Views.{document_view}
-use Rattle.lsp.proofs.ListedTexts.{reading_listed}
+use Rattle.lsp.proofs.ListedParts.{reading_listed}
 use Rattle.lsp.proofs.NoFloats.{symbols_none}
 use Rattle.lsp.proofs.listed.document_symbols.Goals as goal
 
@@ -25,9 +25,7 @@ returns-clause-symbols c =
     let tree : HasListed o d.text closers x.source = subst (λ t. HasListed o t closers x.source) c.text.ensures c.in_ok-listed.ensures.tree in
     let listed : reading_view c.reading_of.result ≡ reading_in o true (record { path = []; text = d.text }) closers = read ∙ reading_listed o d.text x.mended text in
     let places : c.deref.result.now ≡ x.source.places.items = search rules in
-    let units : c.in_ok-places.places.units ≡ c.args.client.units = search rules in
-    let counted : c.in_ok-places.places.text ≡ d.text = search rules in
-    let told : map view c.in_ok-symbols.symbols.items ≡ tree_symbols (page_of o c.args.client c.args.uri.now d closers) x.source.places.items x.source.tree = c.in_ok-symbols.ensures ∙ rw (flat, listed, places, units, counted) refl in
+    let told : map view c.in_ok-symbols.symbols.items ≡ tree_symbols (page_of o c.args.client c.args.uri.now d closers) x.source.places.items x.source.tree = c.in_ok-symbols.ensures ∙ rw (flat, listed, places) refl in
     (closers, x.source, tree, c.list_value.ensures ∙ ap (λ ds. array (items_of ds)) told)
 
 pub returns-clause-plain : goal.returns-clause-plain
@@ -41,7 +39,5 @@ returns-clause-plain c =
     let text : HasTextOf d.text x.mended = subst (λ t. HasTextOf t x.mended) c.text.ensures c.in_ok-listed.ensures.text in
     let listed : reading_view c.reading_of.result ≡ reading_in o true (record { path = []; text = d.text }) closers = read ∙ reading_listed o d.text x.mended text in
     let places : c.deref.result.now ≡ x.source.places.items = search rules in
-    let units : c.in_ok-places.places.units ≡ c.args.client.units = search rules in
-    let counted : c.in_ok-places.places.text ≡ d.text = search rules in
-    let told : map view c.in_ok-symbols.symbols.items ≡ tree_symbols (page_of o c.args.client c.args.uri.now d closers) x.source.places.items x.source.tree = c.in_ok-symbols.ensures ∙ rw (flat, listed, places, units, counted) refl in
+    let told : map view c.in_ok-symbols.symbols.items ≡ tree_symbols (page_of o c.args.client c.args.uri.now d closers) x.source.places.items x.source.tree = c.in_ok-symbols.ensures ∙ rw (flat, listed, places) refl in
     ap has_float c.list_value.ensures ∙ ap (λ ds. items_have_float (items_of ds)) told ∙ symbols_none (page_of o c.args.client c.args.uri.now d closers) x.source.places.items x.source.tree

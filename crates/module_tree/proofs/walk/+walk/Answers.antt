@@ -3,7 +3,7 @@ use Rattle.std.specs.List.{fold}
 use Rattle.std.proofs.lemmas.Result.{err_from_is_err_and}
 use Rattle.item_tree.specs.{declared.items.ModKind.TheVariants.Inline, Shown.IsModule}
 use Rattle.tree_walk.specs.{Inner.Rows.enabled_at, Rows.is_file_enabled}
-use Rattle.module_tree.specs.{Inner.candidate_file_view, Inner.entered_in, Inner.id_modules, Inner.mod_item_view, Inner.place_view, Inner.AddsAll, Modules.is_followed, Views.files_of, Views.modules_view}
+use Rattle.module_tree.specs.{Inner.dir_view, Inner.entered_in, Inner.id_modules, Inner.mod_item_view, Inner.place_view, Inner.AddsAll, Modules.is_followed, Views.files_of, Views.modules_view}
 use Rattle.module_tree.proofs.Limits.{refuses}
 use Rattle.module_tree.proofs.ModItems.{entered_splits, file_grows, inline_adds, inline_grows, items_enter, reaches}
 use Rattle.module_tree.proofs.walk.+walk.Goals as goal
@@ -15,7 +15,7 @@ push_file-returns t c =
     let inside = c.in_ok-inside.inside in
     let on : true ≡ is_followed ctx.choice (is_file_enabled c.in-Some.tree.now) = cc in
     subst (λ all. AddsAll (modules_view c.push_items.new.found) all c.push_items.result)
-    (items_enter ctx.choice (files_of ctx.known) c.args.depth p.module_id (place_view p) (mod_item_view c.args.item.now) c.args.file (candidate_file_view c.args.candidate.now) (modules_view c.args.found.now) c.if-depth-eq0.false
+    (items_enter ctx.choice (files_of ctx.known) c.args.depth p.module_id (place_view p) (mod_item_view c.args.item.now) c.args.file (dir_view c.args.dir) (modules_view c.args.found.now) c.if-depth-eq0.false
     c.in-Some.tree.now c.in-Some.ensures on c.top_level_items-ids.result.now c.top_level_items-ids.ensures.stand inside.module_id c.in_ok-inside.ensures.id (place_view inside) c.in_ok-inside.ensures.place _ c.in_ok-inside.ensures.added.found)
     c.push_items.ensures
 
@@ -46,7 +46,7 @@ push_file-returns-in_err-inside t c =
     let new = modules_view c.push_outline-2.new.found in
     rw (q.1, q.2)
     (refuses new new _ _ c.in_err-inside.field-0.0 c.in_err-inside.ensures.added
-    (file_grows ctx.choice (files_of ctx.known) c.args.depth p.module_id (place_view p) (mod_item_view c.args.item.now) c.args.file (candidate_file_view c.args.candidate.now) (modules_view c.args.found.now) c.if-depth-eq0.false c.in-Some.tree.now c.in-Some.ensures on))
+    (file_grows ctx.choice (files_of ctx.known) c.args.depth p.module_id (place_view p) (mod_item_view c.args.item.now) c.args.file (dir_view c.args.dir) (modules_view c.args.found.now) c.if-depth-eq0.false c.in-Some.tree.now c.in-Some.ensures on))
 
 pub push_item-returns-in_err-inside-in-Inline : goal.push_item-returns-in_err-inside-in-Inline
 push_item-returns-in_err-inside-in-Inline t c =
